@@ -1,27 +1,28 @@
--- The leaves of a list of a known length.
-use Rattle.std.proofs.Common.{◌≡◌, ℕ, refl, List, [], ◌∷◌, length, get_or, arith}
+-- The leaves of a list, by how many they are.
+use Rattle.std.proofs.Common.{◌≡◌, ℕ, suc, refl, ap, ◌∙◌, List, [], ◌∷◌, length, get_or, arith}
 use Rattle.comp_model.specs.Model.{no_leaf, ◌▸◌}
 use Rattle.wire_tree.specs.Model.{leaf_of}
 use Rattle.wire_tree.specs.Lists.{listed}
 use Rattle.wire_tree.specs.declared.tree.Leaf.{Leaf}
+use Rattle.item_read.specs.Parts.{count}
 
-pub no_leaves : (bytes : List ℕ) (xs : List Leaf) → length xs ≡ 0 → listed bytes xs ≡ no_leaf
-no_leaves bytes [] e = refl
-no_leaves bytes (x ∷ xs) e = absurd (omega (arith, e))
+pub counted_leaves : (xs : List Leaf) → count (listed xs) ≡ length xs
+counted_leaves [] = refl
+counted_leaves (x ∷ xs) = ap (λ n. suc n) (counted_leaves xs)
 
-module _ (bytes : List ℕ) (d : Leaf) where
-  pub one_leaf : (xs : List Leaf) → length xs ≡ 1 → listed bytes xs ≡ leaf_of bytes (get_or xs 0 d) ▸ no_leaf
+module _ (d : Leaf) where
+  pub one_leaf : (xs : List Leaf) → count (listed xs) ≡ 1 → listed xs ≡ leaf_of (get_or xs 0 d) ▸ no_leaf
   one_leaf [] e = absurd (omega (arith, e))
   one_leaf (x ∷ []) e = refl
   one_leaf (x ∷ y ∷ xs) e = absurd (omega (arith, e))
 
-  pub two_leaves : (xs : List Leaf) → length xs ≡ 2 → listed bytes xs ≡ leaf_of bytes (get_or xs 0 d) ▸ leaf_of bytes (get_or xs 1 d) ▸ no_leaf
+  pub two_leaves : (xs : List Leaf) → count (listed xs) ≡ 2 → listed xs ≡ leaf_of (get_or xs 0 d) ▸ leaf_of (get_or xs 1 d) ▸ no_leaf
   two_leaves [] e = absurd (omega (arith, e))
   two_leaves (x ∷ []) e = absurd (omega (arith, e))
   two_leaves (x ∷ y ∷ []) e = refl
   two_leaves (x ∷ y ∷ z ∷ xs) e = absurd (omega (arith, e))
 
-  pub three_leaves : (xs : List Leaf) → length xs ≡ 3 → listed bytes xs ≡ leaf_of bytes (get_or xs 0 d) ▸ leaf_of bytes (get_or xs 1 d) ▸ leaf_of bytes (get_or xs 2 d) ▸ no_leaf
+  pub three_leaves : (xs : List Leaf) → count (listed xs) ≡ 3 → listed xs ≡ leaf_of (get_or xs 0 d) ▸ leaf_of (get_or xs 1 d) ▸ leaf_of (get_or xs 2 d) ▸ no_leaf
   three_leaves [] e = absurd (omega (arith, e))
   three_leaves (x ∷ []) e = absurd (omega (arith, e))
   three_leaves (x ∷ y ∷ []) e = absurd (omega (arith, e))

@@ -1,5 +1,9 @@
 mod Answers
 mod ByLength
+mod DefinitionFits
+mod EntryFits
 mod Held
+mod LeafFits
 mod ListRows
+mod NamedEntries
 mod Scopes

@@ -1,14 +1,26 @@
--- The leaves of a row, each by itself.
-use Rattle.std.specs.Prelude.{◌≡◌, ℕ, List}
-use Rattle.comp_model.specs.Model.{Leaves, no_leaf, ◌▸◌}
-use Rattle.wire_tree.specs.Model.{leaf_of}
-use Rattle.item_read.specs.declared.parts.Parts.{Parts}
-use Rattle.item_read.specs.declared.parts.Parts.TheVariants.{Nothing, One, Two, Three, More}
+-- The leaves of a row, by how many they are.
+use Rattle.std.specs.Prelude.{◌≡◌, ℕ, zero, suc}
+use Rattle.comp_model.specs.Model as m
+use Rattle.comp_model.specs.Model.{Leaf, Leaves, no_leaf, ◌▸◌}
 
--- the leaves are just these; nothing is said where there are more than three
-abbrev pub AreParts : List ℕ → Parts → Leaves → Type 0
-AreParts bytes Nothing ls = ls ≡ no_leaf
-AreParts bytes (One a) ls = ls ≡ leaf_of bytes a.now ▸ no_leaf
-AreParts bytes (Two a b) ls = ls ≡ leaf_of bytes a.now ▸ leaf_of bytes b.now ▸ no_leaf
-AreParts bytes (Three a b d) ls = ls ≡ leaf_of bytes a.now ▸ leaf_of bytes b.now ▸ leaf_of bytes d.now ▸ no_leaf
-AreParts bytes More ls = Unit {0}
+abbrev pub count : Leaves → ℕ
+count no_leaf = 0
+count (l ▸ ls) = suc (count ls)
+
+-- the leaf at a place
+abbrev pub at : ℕ → Leaves → Leaf
+at n no_leaf = m.absent
+at zero (l ▸ ls) = l
+at (suc n) (l ▸ ls) = at n ls
+
+abbrev pub Nothing : Leaves → Type 0
+Nothing ls = ls ≡ no_leaf
+
+abbrev pub One : (Leaf → Type 0) → Leaves → Type 0
+One P ls = (count ls ≡ 1) × P (at 0 ls)
+
+abbrev pub Two : (Leaf → Type 0) → (Leaf → Type 0) → Leaves → Type 0
+Two P Q ls = (count ls ≡ 2) × P (at 0 ls) × Q (at 1 ls)
+
+abbrev pub Three : (Leaf → Type 0) → (Leaf → Type 0) → (Leaf → Type 0) → Leaves → Type 0
+Three P Q R ls = (count ls ≡ 3) × P (at 0 ls) × Q (at 1 ls) × R (at 2 ls)

@@ -1,16 +1,18 @@
 //! Lists: a value for each node of one.
 
-ghost use Rattle.std.specs.Prelude.{◌≡◌, ℕ, List, IfOk};
+ghost use Rattle.std.specs.Prelude.{◌≡◌, IfOk};
 ghost use Rattle.comp_model.specs.Model as m;
-ghost use Rattle.comp_model.specs.Model.{Node as ModelNode, no_leaf, ◌▸◌};
-ghost use Rattle.comp_wire.specs.Values.{rows_of_list, option_row, core_argument_row, core_value_row, function_row, named_type_row, case_row, lone_type_row, lone_name_row, start_argument_row};
+ghost use Rattle.comp_model.specs.Model.{Node as ModelNode};
+ghost use Rattle.comp_wire.specs.Values.{rows_of_list, option_row, core_argument_row, core_value_row, named_type_row, case_row, lone_type_row, lone_name_row, start_argument_row};
 ghost use Rattle.wire_tree.specs.Lists.{node_of, nodes_listed};
 ghost use Rattle.wire_tree.specs.Model.{leaf_of};
+ghost use Rattle.item_read.specs.Leaves.{Each, IsList};
+ghost use Rattle.item_read.specs.Rows.{IsOption, IsCoreArgument, IsCoreValueType, IsNamedType, IsCase, IsLoneType, IsLoneName, IsStartArgument};
 
-use crate::leaves::{core_value, index, item, no_id, optional_value, text, value};
-use crate::parts::{Parts, parts_of};
-use comp_model::{Row, Space};
-use comp_wire::{CanonicalOption, ComponentValType, ModuleArg, Seq, WireFunc, WireVal};
+use crate::leaves::{core_value, index, optional_value, text, value};
+use crate::parts::{one, three, two};
+use comp_model::Row;
+use comp_wire::{CanonicalOption, ComponentValType, ModuleArg, Seq, WireVal};
 use std::alloc::{AllocError, Global};
 use wire_tree::{Leaf, Node};
 
@@ -19,102 +21,62 @@ pub trait Entry<'a>: Sized + Drop {
     /// The row of an entry.
     ghost entry_row: { Self → ModelNode };
 
-    /// The entry that a node is. It is refused where the node is of another row.
-    fn of_node(alloc: Global, bytes: &'a [u8], node: &Node<'_>) -> Result<Self, AllocError>
-        ensures { IfOk result (λ v. entry_row v ≡ node_of bytes.now node.now) };
+    /// Which nodes are entries.
+    ghost is_entry: { ModelNode → Type 0 };
+
+    /// The entry that a node is.
+    fn of_node(node: &Node<'_, 'a>) -> Self
+        requires { is_entry (node_of node.now) }
+        ensures { entry_row result ≡ node_of node.now };
 }
 
 /// The entries that nodes are.
-#[tactic(auto, using(crate::proofs::ListRows::all_rows))]
+#[tactic(auto, using(crate::proofs::ListRows::all_rows, crate::proofs::ListRows::one_of_all))]
 fn all_entries<'a, T: Entry<'a>>(
     alloc: Global,
-    bytes: &'a [u8],
-    nodes: &[Node<'_>],
+    nodes: &[Node<'_, 'a>],
 ) -> Result<Seq<T>, AllocError>
-    ensures { IfOk result (λ v. rows_of_list T.entry_row v ≡ nodes_listed bytes.now nodes.now) }
+    requires { Each T.is_entry (nodes_listed nodes.now) }
+    ensures { IfOk result (λ v. rows_of_list T.entry_row v ≡ nodes_listed nodes.now) }
 {
     let mut found = Vec::new(alloc);
     for node in nodes {
-        let entry = T::of_node(alloc, bytes, node)?;
-        found.push(entry)?;
+        found.push(T::of_node(node))?;
     }
     Ok(Seq::from_vec(found))
 }
 
 /// The entries of a list.
-#[tactic(auto, using(crate::proofs::Held::nodes_held))]
-pub fn entries<'a, T: Entry<'a>>(
-    alloc: Global,
-    bytes: &'a [u8],
-    leaf: &Leaf<'_>,
-) -> Result<Seq<T>, AllocError>
-    ensures { IfOk result (λ v. m.nodes (rows_of_list T.entry_row v) ≡ leaf_of bytes.now leaf.now) }
+#[tactic(auto, using(crate::proofs::Held::nodes_held, crate::proofs::Held::list_held))]
+pub fn entries<'a, T: Entry<'a>>(alloc: Global, leaf: &Leaf<'_, 'a>) -> Result<Seq<T>, AllocError>
+    requires { IsList T.is_entry (leaf_of leaf.now) }
+    ensures { IfOk result (λ v. m.nodes (rows_of_list T.entry_row v) ≡ leaf_of leaf.now) }
 {
     match leaf {
         Leaf::Nodes(nodes) => {
-            let found = all_entries(alloc, bytes, nodes)?;
+            let found = all_entries(alloc, nodes)?;
             Ok(found)
         }
-        _ => Err(AllocError),
-    }
-}
-
-/// An option without an index.
-fn plain_option(row: Row) -> Result<CanonicalOption, AllocError>
-    ensures { IfOk result (λ v. option_row v ≡ m.row row no_leaf) }
-{
-    match row {
-        Row::OptionUtf8 => Ok(CanonicalOption::UTF8),
-        Row::OptionUtf16 => Ok(CanonicalOption::UTF16),
-        Row::OptionLatin1Utf16 => Ok(CanonicalOption::CompactUTF16),
-        Row::OptionAsync => Ok(CanonicalOption::Async),
-        _ => Err(AllocError),
-    }
-}
-
-/// An option with an index.
-fn indexed_option(row: Row, leaf: &Leaf<'_>) -> Result<CanonicalOption, AllocError>
-    ensures { (bytes : List ℕ) → IfOk result (λ v. option_row v ≡ m.row row (leaf_of bytes leaf.now ▸ no_leaf)) }
-{
-    match row {
-        Row::OptionMemory => {
-            let memory = index(leaf, Space::CoreMemory)?;
-            Ok(CanonicalOption::Memory(memory))
-        }
-        Row::OptionRealloc => {
-            let func = index(leaf, Space::CoreFunc)?;
-            Ok(CanonicalOption::Realloc(func))
-        }
-        Row::OptionPostReturn => {
-            let func = index(leaf, Space::CoreFunc)?;
-            Ok(CanonicalOption::PostReturn(func))
-        }
-        Row::OptionCallback => {
-            let func = index(leaf, Space::CoreFunc)?;
-            Ok(CanonicalOption::Callback(func))
-        }
-        _ => Err(AllocError),
+        _ => unreachable!(),
     }
 }
 
 impl<'a> Entry<'a> for CanonicalOption {
     ghost entry_row = { option_row };
 
-    fn of_node(
-        _alloc: Global,
-        _bytes: &'a [u8],
-        node: &Node<'_>,
-    ) -> Result<CanonicalOption, AllocError> {
-        match parts_of(node.leaves) {
-            Parts::Nothing => {
-                let option = plain_option(node.row)?;
-                Ok(option)
-            }
-            Parts::One(leaf) => {
-                let option = indexed_option(node.row, leaf)?;
-                Ok(option)
-            }
-            _ => Err(AllocError),
+    ghost is_entry = { IsOption };
+
+    fn of_node(node: &Node<'_, 'a>) -> CanonicalOption {
+        match node.row {
+            Row::OptionUtf8 => CanonicalOption::UTF8,
+            Row::OptionUtf16 => CanonicalOption::UTF16,
+            Row::OptionLatin1Utf16 => CanonicalOption::CompactUTF16,
+            Row::OptionMemory => CanonicalOption::Memory(index(one(node.leaves))),
+            Row::OptionRealloc => CanonicalOption::Realloc(index(one(node.leaves))),
+            Row::OptionPostReturn => CanonicalOption::PostReturn(index(one(node.leaves))),
+            Row::OptionAsync => CanonicalOption::Async,
+            Row::OptionCallback => CanonicalOption::Callback(index(one(node.leaves))),
+            _ => unreachable!(),
         }
     }
 }
@@ -122,132 +84,72 @@ impl<'a> Entry<'a> for CanonicalOption {
 impl<'a> Entry<'a> for WireVal {
     ghost entry_row = { core_value_row };
 
-    fn of_node(_alloc: Global, _bytes: &'a [u8], node: &Node<'_>) -> Result<WireVal, AllocError> {
-        match (node.row, parts_of(node.leaves)) {
-            (Row::CoreValueType, Parts::One(leaf)) => {
-                let value = core_value(leaf)?;
-                Ok(value)
-            }
-            _ => Err(AllocError),
-        }
-    }
-}
+    ghost is_entry = { IsCoreValueType };
 
-impl<'a> Entry<'a> for WireFunc {
-    ghost entry_row = { function_row };
-
-    fn of_node(alloc: Global, bytes: &'a [u8], node: &Node<'_>) -> Result<WireFunc, AllocError> {
-        match (node.row, parts_of(node.leaves)) {
-            (Row::CoreFunctionType, Parts::Two(first, second)) => {
-                let params = entries::<WireVal>(alloc, bytes, first)?;
-                let results = entries::<WireVal>(alloc, bytes, second)?;
-                Ok(WireFunc { params, results })
-            }
-            _ => Err(AllocError),
-        }
+    fn of_node(node: &Node<'_, 'a>) -> WireVal {
+        core_value(one(node.leaves))
     }
 }
 
 impl<'a> Entry<'a> for (&'a [u8], ModuleArg) {
     ghost entry_row = { core_argument_row };
 
-    fn of_node(
-        _alloc: Global,
-        bytes: &'a [u8],
-        node: &Node<'_>,
-    ) -> Result<(&'a [u8], ModuleArg), AllocError> {
-        match (node.row, parts_of(node.leaves)) {
-            (Row::CoreArgument, Parts::Two(first, second)) => {
-                let name = text(bytes, first)?;
-                let instance = index(second, Space::CoreInstance)?;
-                Ok((name, ModuleArg::Instance(instance)))
-            }
-            _ => Err(AllocError),
-        }
+    ghost is_entry = { IsCoreArgument };
+
+    fn of_node(node: &Node<'_, 'a>) -> (&'a [u8], ModuleArg) {
+        let (name, instance) = two(node.leaves);
+        (text(name), ModuleArg::Instance(index(instance)))
     }
 }
 
 impl<'a> Entry<'a> for (&'a [u8], ComponentValType) {
     ghost entry_row = { named_type_row };
 
-    fn of_node(
-        _alloc: Global,
-        bytes: &'a [u8],
-        node: &Node<'_>,
-    ) -> Result<(&'a [u8], ComponentValType), AllocError> {
-        match (node.row, parts_of(node.leaves)) {
-            (Row::NamedType, Parts::Two(first, second)) => {
-                let name = text(bytes, first)?;
-                let found = value(second)?;
-                Ok((name, found))
-            }
-            _ => Err(AllocError),
-        }
+    ghost is_entry = { IsNamedType };
+
+    fn of_node(node: &Node<'_, 'a>) -> (&'a [u8], ComponentValType) {
+        let (name, ty) = two(node.leaves);
+        (text(name), value(ty))
     }
 }
 
 impl<'a> Entry<'a> for (&'a [u8], Option<ComponentValType>) {
     ghost entry_row = { case_row };
 
-    fn of_node(
-        _alloc: Global,
-        bytes: &'a [u8],
-        node: &Node<'_>,
-    ) -> Result<(&'a [u8], Option<ComponentValType>), AllocError> {
-        match (node.row, parts_of(node.leaves)) {
-            (Row::CaseType, Parts::Three(first, second, third)) => {
-                no_id(first)?;
-                let name = text(bytes, second)?;
-                let found = optional_value(third)?;
-                Ok((name, found))
-            }
-            _ => Err(AllocError),
-        }
+    ghost is_entry = { IsCase };
+
+    fn of_node(node: &Node<'_, 'a>) -> (&'a [u8], Option<ComponentValType>) {
+        let (_id, name, ty) = three(node.leaves);
+        (text(name), optional_value(ty))
     }
 }
 
 impl<'a> Entry<'a> for ComponentValType {
     ghost entry_row = { lone_type_row };
 
-    fn of_node(
-        _alloc: Global,
-        _bytes: &'a [u8],
-        node: &Node<'_>,
-    ) -> Result<ComponentValType, AllocError> {
-        match (node.row, parts_of(node.leaves)) {
-            (Row::LoneType, Parts::One(leaf)) => {
-                let found = value(leaf)?;
-                Ok(found)
-            }
-            _ => Err(AllocError),
-        }
+    ghost is_entry = { IsLoneType };
+
+    fn of_node(node: &Node<'_, 'a>) -> ComponentValType {
+        value(one(node.leaves))
     }
 }
 
 impl<'a> Entry<'a> for &'a [u8] {
     ghost entry_row = { lone_name_row };
 
-    fn of_node(_alloc: Global, bytes: &'a [u8], node: &Node<'_>) -> Result<&'a [u8], AllocError> {
-        match (node.row, parts_of(node.leaves)) {
-            (Row::LoneName, Parts::One(leaf)) => {
-                let name = text(bytes, leaf)?;
-                Ok(name)
-            }
-            _ => Err(AllocError),
-        }
+    ghost is_entry = { IsLoneName };
+
+    fn of_node(node: &Node<'_, 'a>) -> &'a [u8] {
+        text(one(node.leaves))
     }
 }
 
 impl<'a> Entry<'a> for u32 {
     ghost entry_row = { start_argument_row };
 
-    fn of_node(_alloc: Global, _bytes: &'a [u8], node: &Node<'_>) -> Result<u32, AllocError> {
-        match (node.row, parts_of(node.leaves)) {
-            (Row::StartArgument, Parts::One(leaf)) => {
-                let found = index(leaf, Space::Value)?;
-                Ok(found)
-            }
-            _ => Err(AllocError),
-        }
+    ghost is_entry = { IsStartArgument };
+
+    fn of_node(node: &Node<'_, 'a>) -> u32 {
+        index(one(node.leaves))
     }
 }

@@ -1,233 +1,207 @@
-//! The value that a leaf holds. Each is refused where the leaf is of another sort, as none of a row that is read is.
+//! The value that a leaf holds, by its sort.
 
-ghost use Rattle.std.specs.Prelude.{◌≡◌, ℕ, List, IfOk};
+ghost use Rattle.std.specs.Prelude.{◌≡◌};
+ghost use Rattle.comp_model.specs.declared.Space.TheVariants.{CoreFunc};
 ghost use Rattle.comp_model.specs.Core.{counted};
 ghost use Rattle.comp_model.specs.Model as m;
-ghost use Rattle.comp_wire.specs.Values.{bit, value_of, optional_of, number_leaf, index_of as index_leaf, core_value_of, primitive_byte_of};
-ghost use Rattle.wire_tree.specs.Model.{leaf_of, text_at};
+ghost use Rattle.comp_wire.specs.Spelled.{IsPrimitive};
+ghost use Rattle.comp_wire.specs.Values.{bit, value_of, optional_of, number_leaf, index_of, core_value_of, primitive_byte_of};
+ghost use Rattle.wire_tree.specs.Model.{leaf_of};
+ghost use Rattle.item_read.specs.Leaves.{IsText, IsModule, IsNumber, IsFlag, IsPrimitiveByte, IsValue, IsCoreValue, IsIndex, IsItem, IsKind, IsOutward, IsResults, IsOptional, space_at};
 
 use comp_model::Space;
 use comp_wire::{ComponentValType, PrimitiveValType, WireVal};
-use std::alloc::AllocError;
-use wire_tree::{Leaf, Span};
-
-/// The bytes at a place.
-fn bytes_at<'a>(bytes: &'a [u8], span: Span) -> Result<&'a [u8], AllocError>
-    ensures { IfOk result (λ v. v.now ≡ text_at bytes.now span) }
-{
-    if span.start <= bytes.len() && span.length <= bytes.len() - span.start {
-        let end = span.start + span.length;
-        return Ok(&bytes[span.start..end]);
-    }
-    Err(AllocError)
-}
+use wire_tree::Leaf;
 
 /// A text, or the payload of a custom section.
-pub fn text<'a>(bytes: &'a [u8], leaf: &Leaf<'_>) -> Result<&'a [u8], AllocError>
-    ensures { IfOk result (λ v. m.text v.now ≡ leaf_of bytes.now leaf.now) }
+pub fn text<'a>(leaf: &Leaf<'_, 'a>) -> &'a [u8]
+    requires { IsText (leaf_of leaf.now) }
+    ensures { m.text result.now ≡ leaf_of leaf.now }
 {
     match leaf {
-        Leaf::Text(span) => {
-            let found = bytes_at(bytes, *span)?;
-            Ok(found)
-        }
-        _ => Err(AllocError),
+        Leaf::Text(bytes) => bytes,
+        _ => unreachable!(),
     }
 }
 
 /// The bytes of a core module.
-pub fn module<'a>(bytes: &'a [u8], leaf: &Leaf<'_>) -> Result<&'a [u8], AllocError>
-    ensures { IfOk result (λ v. m.module_bytes v.now ≡ leaf_of bytes.now leaf.now) }
+pub fn module<'a>(leaf: &Leaf<'_, 'a>) -> &'a [u8]
+    requires { IsModule (leaf_of leaf.now) }
+    ensures { m.module_bytes result.now ≡ leaf_of leaf.now }
 {
     match leaf {
-        Leaf::Module(span) => {
-            let found = bytes_at(bytes, *span)?;
-            Ok(found)
-        }
-        _ => Err(AllocError),
+        Leaf::Module(bytes) => bytes,
+        _ => unreachable!(),
     }
 }
 
 /// A number.
-pub fn number(leaf: &Leaf<'_>) -> Result<u32, AllocError>
-    ensures { (bytes : List ℕ) → IfOk result (λ v. m.number v ≡ leaf_of bytes leaf.now) }
+pub fn number(leaf: &Leaf<'_, '_>) -> u32
+    requires { IsNumber (leaf_of leaf.now) }
+    ensures { m.number result ≡ leaf_of leaf.now }
 {
     match leaf {
-        Leaf::Number(number) => Ok(*number),
-        _ => Err(AllocError),
+        Leaf::Number(number) => *number,
+        _ => unreachable!(),
     }
 }
 
 /// A flag.
-pub fn flag(leaf: &Leaf<'_>) -> Result<bool, AllocError>
-    ensures { (bytes : List ℕ) → IfOk result (λ v. m.number (bit v) ≡ leaf_of bytes leaf.now) }
+pub fn flag(leaf: &Leaf<'_, '_>) -> bool
+    requires { IsFlag (leaf_of leaf.now) }
+    ensures { m.number (bit result) ≡ leaf_of leaf.now }
 {
     match leaf {
-        Leaf::Number(0) => Ok(false),
-        Leaf::Number(1) => Ok(true),
-        _ => Err(AllocError),
+        Leaf::Number(number) => *number != 0,
+        _ => unreachable!(),
     }
 }
 
 /// A kind.
-pub fn kind(leaf: &Leaf<'_>) -> Result<Space, AllocError>
-    ensures { (bytes : List ℕ) → IfOk result (λ v. m.kind v ≡ leaf_of bytes leaf.now) }
+pub fn kind(leaf: &Leaf<'_, '_>) -> Space
+    requires { IsKind (leaf_of leaf.now) }
+    ensures { m.kind result ≡ leaf_of leaf.now }
 {
     match leaf {
-        Leaf::Kind(space) => Ok(*space),
-        _ => Err(AllocError),
+        Leaf::Kind(space) => *space,
+        _ => unreachable!(),
     }
 }
 
 /// How many scopes outward.
-pub fn outward(leaf: &Leaf<'_>) -> Result<u32, AllocError>
-    ensures { (bytes : List ℕ) → IfOk result (λ v. m.place (counted 0 v) ≡ leaf_of bytes leaf.now) }
+pub fn outward(leaf: &Leaf<'_, '_>) -> u32
+    requires { IsOutward (leaf_of leaf.now) }
+    ensures { m.place (counted 0 result) ≡ leaf_of leaf.now }
 {
     match leaf {
-        Leaf::Outward(count) => Ok(*count),
-        _ => Err(AllocError),
+        Leaf::Outward(count) => *count,
+        _ => unreachable!(),
     }
 }
 
 /// How many results a start function has.
-pub fn results(leaf: &Leaf<'_>) -> Result<u32, AllocError>
-    ensures { (bytes : List ℕ) → IfOk result (λ v. m.result_count v ≡ leaf_of bytes leaf.now) }
+pub fn results(leaf: &Leaf<'_, '_>) -> u32
+    requires { IsResults (leaf_of leaf.now) }
+    ensures { m.result_count result ≡ leaf_of leaf.now }
 {
     match leaf {
-        Leaf::Results(count) => Ok(*count),
-        _ => Err(AllocError),
-    }
-}
-
-/// The id of a case, which the binary lacks.
-pub fn no_id(leaf: &Leaf<'_>) -> Result<(), AllocError>
-    ensures { (bytes : List ℕ) → IfOk result (λ v. m.case_id None ≡ leaf_of bytes leaf.now) }
-{
-    match leaf {
-        Leaf::NoId => Ok(()),
-        _ => Err(AllocError),
+        Leaf::Results(count) => *count,
+        _ => unreachable!(),
     }
 }
 
 /// A core value type.
-pub fn core_value(leaf: &Leaf<'_>) -> Result<WireVal, AllocError>
-    ensures { (bytes : List ℕ) → IfOk result (λ v. m.core_value (core_value_of v) ≡ leaf_of bytes leaf.now) }
+pub fn core_value(leaf: &Leaf<'_, '_>) -> WireVal
+    requires { IsCoreValue (leaf_of leaf.now) }
+    ensures { m.core_value (core_value_of result) ≡ leaf_of leaf.now }
 {
     match leaf {
-        Leaf::CoreValue(value) => Ok(*value),
-        _ => Err(AllocError),
+        Leaf::CoreValue(value) => *value,
+        _ => unreachable!(),
     }
 }
 
 /// An index and its space.
-pub fn item(leaf: &Leaf<'_>) -> Result<(Space, u32), AllocError>
-    ensures { (bytes : List ℕ) → IfOk result (λ v. m.ref v.0 (m.index v.1) ≡ leaf_of bytes leaf.now) }
+pub fn item(leaf: &Leaf<'_, '_>) -> (Space, u32)
+    requires { IsItem (leaf_of leaf.now) }
+    ensures { m.ref result.0 (m.index result.1) ≡ leaf_of leaf.now }
 {
     match leaf {
-        Leaf::Index(space, index) => Ok((*space, *index)),
-        _ => Err(AllocError),
+        Leaf::Index(space, index) => (*space, *index),
+        _ => unreachable!(),
     }
 }
 
 /// An index of a space.
-pub fn index(leaf: &Leaf<'_>, space: Space) -> Result<u32, AllocError>
-    ensures { (bytes : List ℕ) → IfOk result (λ v. m.ref space (m.index v) ≡ leaf_of bytes leaf.now) }
+pub fn index(leaf: &Leaf<'_, '_>) -> u32
+    requires { IsItem (leaf_of leaf.now) }
+    ensures { m.ref (space_at (leaf_of leaf.now)) (m.index result) ≡ leaf_of leaf.now }
 {
     match leaf {
-        Leaf::Index(found, index) => {
-            if *found == space {
-                return Ok(*index);
-            }
-            Err(AllocError)
-        }
-        _ => Err(AllocError),
+        Leaf::Index(_, index) => *index,
+        _ => unreachable!(),
     }
 }
 
 /// The primitive type of a byte (Component Model, binary format, Type Definitions).
-fn primitive_of(code: u32) -> Result<PrimitiveValType, AllocError>
-    ensures { IfOk result (λ v. primitive_byte_of v ≡ code) }
+fn primitive_of(code: u32) -> PrimitiveValType
+    requires { IsPrimitive code }
+    ensures { primitive_byte_of result ≡ code }
 {
     match code {
-        0x7f => Ok(PrimitiveValType::Bool),
-        0x7e => Ok(PrimitiveValType::S8),
-        0x7d => Ok(PrimitiveValType::U8),
-        0x7c => Ok(PrimitiveValType::S16),
-        0x7b => Ok(PrimitiveValType::U16),
-        0x7a => Ok(PrimitiveValType::S32),
-        0x79 => Ok(PrimitiveValType::U32),
-        0x78 => Ok(PrimitiveValType::S64),
-        0x77 => Ok(PrimitiveValType::U64),
-        0x76 => Ok(PrimitiveValType::F32),
-        0x75 => Ok(PrimitiveValType::F64),
-        0x74 => Ok(PrimitiveValType::Char),
-        0x73 => Ok(PrimitiveValType::String),
-        0x64 => Ok(PrimitiveValType::ErrorContext),
-        _ => Err(AllocError),
+        0x7f => PrimitiveValType::Bool,
+        0x7e => PrimitiveValType::S8,
+        0x7d => PrimitiveValType::U8,
+        0x7c => PrimitiveValType::S16,
+        0x7b => PrimitiveValType::U16,
+        0x7a => PrimitiveValType::S32,
+        0x79 => PrimitiveValType::U32,
+        0x78 => PrimitiveValType::S64,
+        0x77 => PrimitiveValType::U64,
+        0x76 => PrimitiveValType::F32,
+        0x75 => PrimitiveValType::F64,
+        0x74 => PrimitiveValType::Char,
+        0x73 => PrimitiveValType::String,
+        0x64 => PrimitiveValType::ErrorContext,
+        _ => unreachable!(),
     }
 }
 
 /// A primitive type.
-pub fn primitive(leaf: &Leaf<'_>) -> Result<PrimitiveValType, AllocError>
-    ensures { (bytes : List ℕ) → IfOk result (λ v. m.number (primitive_byte_of v) ≡ leaf_of bytes leaf.now) }
+pub fn primitive(leaf: &Leaf<'_, '_>) -> PrimitiveValType
+    requires { IsPrimitiveByte (leaf_of leaf.now) }
+    ensures { m.number (primitive_byte_of result) ≡ leaf_of leaf.now }
 {
-    let code = number(leaf)?;
-    let found = primitive_of(code)?;
-    Ok(found)
+    match leaf {
+        Leaf::Number(code) => primitive_of(*code),
+        _ => unreachable!(),
+    }
 }
 
 /// A value type.
-pub fn value(leaf: &Leaf<'_>) -> Result<ComponentValType, AllocError>
-    ensures { (bytes : List ℕ) → IfOk result (λ v. value_of v ≡ leaf_of bytes leaf.now) }
+pub fn value(leaf: &Leaf<'_, '_>) -> ComponentValType
+    requires { IsValue (leaf_of leaf.now) }
+    ensures { value_of result ≡ leaf_of leaf.now }
 {
     match leaf {
-        Leaf::Index(Space::Ty, index) => Ok(ComponentValType::Ty(*index)),
-        Leaf::Number(code) => {
-            let found = primitive_of(*code)?;
-            Ok(ComponentValType::Primitive(found))
-        }
-        _ => Err(AllocError),
+        Leaf::Index(_, index) => ComponentValType::Ty(*index),
+        Leaf::Number(code) => ComponentValType::Primitive(primitive_of(*code)),
+        _ => unreachable!(),
     }
 }
 
 /// A value type, if there is one.
-pub fn optional_value(leaf: &Leaf<'_>) -> Result<Option<ComponentValType>, AllocError>
-    ensures { (bytes : List ℕ) → IfOk result (λ v. optional_of value_of v ≡ leaf_of bytes leaf.now) }
+pub fn optional_value(leaf: &Leaf<'_, '_>) -> Option<ComponentValType>
+    requires { IsOptional IsValue (leaf_of leaf.now) }
+    ensures { optional_of value_of result ≡ leaf_of leaf.now }
 {
     match leaf {
-        Leaf::Absent => Ok(None),
-        Leaf::Present(part) => {
-            let found = value(part)?;
-            Ok(Some(found))
-        }
-        _ => Err(AllocError),
+        Leaf::Absent => None,
+        Leaf::Present(part) => Some(value(part)),
+        _ => unreachable!(),
     }
 }
 
 /// A number, if there is one.
-pub fn optional_number(leaf: &Leaf<'_>) -> Result<Option<u32>, AllocError>
-    ensures { (bytes : List ℕ) → IfOk result (λ v. optional_of number_leaf v ≡ leaf_of bytes leaf.now) }
+pub fn optional_number(leaf: &Leaf<'_, '_>) -> Option<u32>
+    requires { IsOptional IsNumber (leaf_of leaf.now) }
+    ensures { optional_of number_leaf result ≡ leaf_of leaf.now }
 {
     match leaf {
-        Leaf::Absent => Ok(None),
-        Leaf::Present(part) => {
-            let found = number(part)?;
-            Ok(Some(found))
-        }
-        _ => Err(AllocError),
+        Leaf::Absent => None,
+        Leaf::Present(part) => Some(number(part)),
+        _ => unreachable!(),
     }
 }
 
-/// An index of a space, if there is one.
-pub fn optional_index(leaf: &Leaf<'_>, space: Space) -> Result<Option<u32>, AllocError>
-    ensures { (bytes : List ℕ) → IfOk result (λ v. optional_of (index_leaf space) v ≡ leaf_of bytes leaf.now) }
+/// An index of a core function, if there is one.
+pub fn optional_function(leaf: &Leaf<'_, '_>) -> Option<u32>
+    requires { IsOptional (IsIndex CoreFunc) (leaf_of leaf.now) }
+    ensures { optional_of (index_of CoreFunc) result ≡ leaf_of leaf.now }
 {
     match leaf {
-        Leaf::Absent => Ok(None),
-        Leaf::Present(part) => {
-            let found = index(part, space)?;
-            Ok(Some(found))
-        }
-        _ => Err(AllocError),
+        Leaf::Absent => None,
+        Leaf::Present(part) => Some(index(part)),
+        _ => unreachable!(),
     }
 }

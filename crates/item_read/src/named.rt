@@ -1,85 +1,59 @@
 //! Lists of names with a space and an index: arguments, and exports of instances.
 
-ghost use Rattle.std.specs.Prelude.{◌≡◌, IfOk, true};
+ghost use Rattle.std.specs.Prelude.{◌≡◌, IfOk};
+ghost use Rattle.comp_model.specs.declared.row.Row.{Row};
 ghost use Rattle.comp_model.specs.Model as m;
+ghost use Rattle.comp_model.specs.Model.{no_leaf, ◌▸◌};
 ghost use Rattle.comp_wire.specs.Values.{rows_of_list};
-ghost use Rattle.wire_tree.specs.Lists.{node_of, nodes_listed};
+ghost use Rattle.wire_tree.specs.Lists.{listed, nodes_listed};
 ghost use Rattle.wire_tree.specs.Model.{leaf_of};
+ghost use Rattle.item_read.specs.Leaves.{Each, IsItem, IsList, IsText};
 ghost use Rattle.item_read.specs.Named.{named_row};
+ghost use Rattle.item_read.specs.Parts.{Two};
+ghost use Rattle.item_read.specs.Rows.{IsNamedItem};
 
 use crate::leaves::{item, text};
-use crate::parts::{Parts, parts_of};
-use comp_model::{Row, Space};
+use crate::parts::two;
+use comp_model::Space;
 use comp_wire::Seq;
 use std::alloc::{AllocError, Global};
 use wire_tree::{Leaf, Node};
 
-/// Whether a row is that of such a list.
-fn is_row(found: Row, row: Row) -> bool
-    ensures { result ≡ true → found ≡ row }
+/// The name, space and index that a node is.
+fn named_item<'a>(node: &Node<'_, 'a>) -> (&'a [u8], Space, u32)
+    requires { Two IsText IsItem (listed node.now.leaves.now) }
+    ensures { m.text result.0.now ▸ m.ref result.1 (m.index result.2) ▸ no_leaf ≡ listed node.now.leaves.now }
 {
-    match (found, row) {
-        (Row::CoreBundleExport, Row::CoreBundleExport) => true,
-        (Row::Argument, Row::Argument) => true,
-        (Row::BundleExport, Row::BundleExport) => true,
-        _ => false,
-    }
+    let (name, named) = two(node.leaves);
+    let (space, index) = item(named);
+    (text(name), space, index)
 }
 
-/// The name, space and index that a node of a row is.
-fn named_item<'a>(
-    bytes: &'a [u8],
-    row: Row,
-    node: &Node<'_>,
-) -> Result<(&'a [u8], Space, u32), AllocError>
-    ensures { IfOk result (λ v. named_row row v ≡ node_of bytes.now node.now) }
-{
-    match parts_of(node.leaves) {
-        Parts::Two(first, second) => {
-            if !is_row(node.row, row) {
-                return Err(AllocError);
-            }
-            let name = text(bytes, first)?;
-            let (space, index) = item(second)?;
-            Ok((name, space, index))
-        }
-        _ => Err(AllocError),
-    }
-}
-
-/// Those that nodes of a row are.
-#[tactic(auto, using(crate::proofs::ListRows::all_rows))]
+/// Those that nodes are.
 fn all_named<'a>(
     alloc: Global,
-    bytes: &'a [u8],
-    row: Row,
-    nodes: &[Node<'_>],
+    nodes: &[Node<'_, 'a>],
 ) -> Result<Seq<(&'a [u8], Space, u32)>, AllocError>
-    ensures { IfOk result (λ v. rows_of_list (named_row row) v ≡ nodes_listed bytes.now nodes.now) }
+    requires { (r : Row) × Each (IsNamedItem r) (nodes_listed nodes.now) }
+    ensures { (r : Row) → Each (IsNamedItem r) (nodes_listed nodes.now) → IfOk result (λ v. rows_of_list (named_row r) v ≡ nodes_listed nodes.now) }
 {
     let mut found = Vec::new(alloc);
     for node in nodes {
-        let item = named_item(bytes, row, node)?;
-        found.push(item)?;
+        found.push(named_item(node))?;
     }
     Ok(Seq::from_vec(found))
 }
 
-/// Those of a list of a row.
-#[tactic(auto, using(crate::proofs::Held::nodes_held))]
+/// Those of a list, each of which is of one row.
 pub fn named_items<'a>(
     alloc: Global,
-    bytes: &'a [u8],
-    row: Row,
-    leaf: &Leaf<'_>,
+    leaf: &Leaf<'_, 'a>,
 ) -> Result<Seq<(&'a [u8], Space, u32)>, AllocError>
-    ensures { IfOk result (λ v. m.nodes (rows_of_list (named_row row) v) ≡ leaf_of bytes.now leaf.now) }
+    requires { (r : Row) × IsList (IsNamedItem r) (leaf_of leaf.now) }
+    ensures { (r : Row) → IsList (IsNamedItem r) (leaf_of leaf.now) → IfOk result (λ v. m.nodes (rows_of_list (named_row r) v) ≡ leaf_of leaf.now) }
 {
     match leaf {
-        Leaf::Nodes(nodes) => {
-            let found = all_named(alloc, bytes, row, nodes)?;
-            Ok(found)
-        }
-        _ => Err(AllocError),
+        Leaf::Nodes(nodes) => all_named(alloc, nodes),
+        _ => unreachable!(),
     }
 }

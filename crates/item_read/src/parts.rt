@@ -1,36 +1,38 @@
-//! The leaves of a row, each by itself.
+//! The leaves of a row, as its shape has them.
 
-ghost use Rattle.std.specs.Prelude.{ℕ, List};
+ghost use Rattle.std.specs.Prelude.{◌≡◌};
+ghost use Rattle.comp_model.specs.Model.{no_leaf, ◌▸◌};
 ghost use Rattle.wire_tree.specs.Lists.{listed};
-ghost use Rattle.item_read.specs.Parts.{AreParts};
+ghost use Rattle.wire_tree.specs.Model.{leaf_of};
+ghost use Rattle.item_read.specs.Parts.{count};
 
 use wire_tree::Leaf;
 
-/// The leaves of a row, which has three at most.
-#[derive(Clone, Copy)]
-pub enum Parts<'t> {
-    /// None.
-    Nothing,
-    /// One.
-    One(&'t Leaf<'t>),
-    /// Two.
-    Two(&'t Leaf<'t>, &'t Leaf<'t>),
-    /// Three.
-    Three(&'t Leaf<'t>, &'t Leaf<'t>, &'t Leaf<'t>),
-    /// More, which no row has.
-    More,
+/// The one leaf of a row.
+#[tactic(auto, using(crate::proofs::ByLength::one_leaf, crate::proofs::ByLength::counted_leaves))]
+pub fn one<'t, 'a>(leaves: &'t [Leaf<'t, 'a>]) -> &'t Leaf<'t, 'a>
+    requires { count (listed leaves.now) ≡ 1 }
+    ensures { listed leaves.now ≡ leaf_of result.now ▸ no_leaf }
+{
+    &leaves[0]
 }
 
-/// The leaves of a row.
-#[tactic(auto, using(crate::proofs::ByLength::no_leaves, crate::proofs::ByLength::one_leaf, crate::proofs::ByLength::two_leaves, crate::proofs::ByLength::three_leaves))]
-pub fn parts_of<'t>(leaves: &'t [Leaf<'t>]) -> Parts<'t>
-    ensures { (bytes : List ℕ) → AreParts bytes result (listed bytes leaves.now) }
+/// The two leaves of a row.
+#[tactic(auto, using(crate::proofs::ByLength::two_leaves, crate::proofs::ByLength::counted_leaves))]
+pub fn two<'t, 'a>(leaves: &'t [Leaf<'t, 'a>]) -> (&'t Leaf<'t, 'a>, &'t Leaf<'t, 'a>)
+    requires { count (listed leaves.now) ≡ 2 }
+    ensures { listed leaves.now ≡ leaf_of result.0.now ▸ leaf_of result.1.now ▸ no_leaf }
 {
-    match leaves.len() {
-        0 => Parts::Nothing,
-        1 => Parts::One(&leaves[0]),
-        2 => Parts::Two(&leaves[0], &leaves[1]),
-        3 => Parts::Three(&leaves[0], &leaves[1], &leaves[2]),
-        _ => Parts::More,
-    }
+    (&leaves[0], &leaves[1])
+}
+
+/// The three leaves of a row.
+#[tactic(auto, using(crate::proofs::ByLength::three_leaves, crate::proofs::ByLength::counted_leaves))]
+pub fn three<'t, 'a>(
+    leaves: &'t [Leaf<'t, 'a>],
+) -> (&'t Leaf<'t, 'a>, &'t Leaf<'t, 'a>, &'t Leaf<'t, 'a>)
+    requires { count (listed leaves.now) ≡ 3 }
+    ensures { listed leaves.now ≡ leaf_of result.0.now ▸ leaf_of result.1.now ▸ leaf_of result.2.now ▸ no_leaf }
+{
+    (&leaves[0], &leaves[1], &leaves[2])
 }

@@ -1,130 +1,88 @@
 //! Rows that stand in others: descriptions of imports and exports, and entities of core modules.
 
-ghost use Rattle.std.specs.Prelude.{◌≡◌, List, ℕ, IfOk};
+ghost use Rattle.std.specs.Prelude.{◌≡◌};
 ghost use Rattle.comp_model.specs.Model as m;
-ghost use Rattle.comp_model.specs.Model.{no_leaf, ◌▸◌};
 ghost use Rattle.comp_wire.specs.Values.{optional_of, description_row, description_leaf, entity_row};
 ghost use Rattle.wire_tree.specs.Lists.{node_of};
 ghost use Rattle.wire_tree.specs.Model.{leaf_of};
+ghost use Rattle.item_read.specs.Leaves.{IsOptional, IsRow};
+ghost use Rattle.item_read.specs.Rows.{IsDescription, IsEntity};
 
 use crate::leaves::{core_value, flag, index, number, optional_number};
-use crate::parts::{Parts, parts_of};
-use comp_model::{Row, Space};
+use crate::parts::{one, three, two};
+use comp_model::Row;
 use comp_wire::{ComponentTypeRef, TypeBounds, WireEntity};
-use std::alloc::AllocError;
 use wire_tree::{Leaf, Node};
 
-/// The description with the index of a type.
-fn described_by(row: Row, leaf: &Leaf<'_>) -> Result<ComponentTypeRef, AllocError>
-    ensures { (bytes : List ℕ) → IfOk result (λ v. description_row v ≡ m.row row (leaf_of bytes leaf.now ▸ no_leaf)) }
-{
-    match row {
-        Row::ModuleDescription => {
-            let ty = index(leaf, Space::CoreType)?;
-            Ok(ComponentTypeRef::Module(ty))
-        }
-        Row::FuncDescription => {
-            let ty = index(leaf, Space::Ty)?;
-            Ok(ComponentTypeRef::Func(ty))
-        }
-        Row::TypeEq => {
-            let ty = index(leaf, Space::Ty)?;
-            Ok(ComponentTypeRef::Ty(TypeBounds::Eq(ty)))
-        }
-        Row::ComponentDescription => {
-            let ty = index(leaf, Space::Ty)?;
-            Ok(ComponentTypeRef::Component(ty))
-        }
-        Row::InstanceDescription => {
-            let ty = index(leaf, Space::Ty)?;
-            Ok(ComponentTypeRef::Instance(ty))
-        }
-        _ => Err(AllocError),
-    }
-}
-
 /// The description that a node is.
-fn description_of(node: &Node<'_>) -> Result<ComponentTypeRef, AllocError>
-    ensures { (bytes : List ℕ) → IfOk result (λ v. description_row v ≡ node_of bytes node.now) }
+fn description_of(node: &Node<'_, '_>) -> ComponentTypeRef
+    requires { IsDescription (node_of node.now) }
+    ensures { description_row result ≡ node_of node.now }
 {
-    match parts_of(node.leaves) {
-        Parts::Nothing => match node.row {
-            Row::SubResource => Ok(ComponentTypeRef::Ty(TypeBounds::SubResource)),
-            _ => Err(AllocError),
-        },
-        Parts::One(leaf) => {
-            let found = described_by(node.row, leaf)?;
-            Ok(found)
-        }
-        _ => Err(AllocError),
+    match node.row {
+        Row::ModuleDescription => ComponentTypeRef::Module(index(one(node.leaves))),
+        Row::FuncDescription => ComponentTypeRef::Func(index(one(node.leaves))),
+        Row::TypeEq => ComponentTypeRef::Ty(TypeBounds::Eq(index(one(node.leaves)))),
+        Row::SubResource => ComponentTypeRef::Ty(TypeBounds::SubResource),
+        Row::ComponentDescription => ComponentTypeRef::Component(index(one(node.leaves))),
+        Row::InstanceDescription => ComponentTypeRef::Instance(index(one(node.leaves))),
+        _ => unreachable!(),
     }
 }
 
 /// A description.
-pub fn description(leaf: &Leaf<'_>) -> Result<ComponentTypeRef, AllocError>
-    ensures { (bytes : List ℕ) → IfOk result (λ v. description_leaf v ≡ leaf_of bytes leaf.now) }
+pub fn description(leaf: &Leaf<'_, '_>) -> ComponentTypeRef
+    requires { IsRow IsDescription (leaf_of leaf.now) }
+    ensures { description_leaf result ≡ leaf_of leaf.now }
 {
     match leaf {
-        Leaf::Node(node) => {
-            let found = description_of(node)?;
-            Ok(found)
-        }
-        _ => Err(AllocError),
+        Leaf::Node(node) => description_of(node),
+        _ => unreachable!(),
     }
 }
 
 /// A description, if there is one.
-pub fn optional_description(leaf: &Leaf<'_>) -> Result<Option<ComponentTypeRef>, AllocError>
-    ensures { (bytes : List ℕ) → IfOk result (λ v. optional_of description_leaf v ≡ leaf_of bytes leaf.now) }
+pub fn optional_description(leaf: &Leaf<'_, '_>) -> Option<ComponentTypeRef>
+    requires { IsOptional (IsRow IsDescription) (leaf_of leaf.now) }
+    ensures { optional_of description_leaf result ≡ leaf_of leaf.now }
 {
     match leaf {
-        Leaf::Absent => Ok(None),
-        Leaf::Present(part) => {
-            let found = description(part)?;
-            Ok(Some(found))
-        }
-        _ => Err(AllocError),
+        Leaf::Absent => None,
+        Leaf::Present(part) => Some(description(part)),
+        _ => unreachable!(),
     }
 }
 
 /// The entity that a node is.
-fn entity_of(node: &Node<'_>) -> Result<WireEntity, AllocError>
-    ensures { (bytes : List ℕ) → IfOk result (λ v. entity_row v ≡ node_of bytes node.now) }
+fn entity_of(node: &Node<'_, '_>) -> WireEntity
+    requires { IsEntity (node_of node.now) }
+    ensures { entity_row result ≡ node_of node.now }
 {
-    match (node.row, parts_of(node.leaves)) {
-        (Row::FuncEntity, Parts::One(leaf)) => {
-            let ty = index(leaf, Space::CoreType)?;
-            Ok(WireEntity::Func(ty))
+    match node.row {
+        Row::FuncEntity => WireEntity::Func(index(one(node.leaves))),
+        Row::TableEntity => {
+            let (element, least, most) = three(node.leaves);
+            WireEntity::Table(core_value(element), number(least), optional_number(most))
         }
-        (Row::TableEntity, Parts::Three(first, second, third)) => {
-            let element = core_value(first)?;
-            let least = number(second)?;
-            let most = optional_number(third)?;
-            Ok(WireEntity::Table(element, least, most))
+        Row::MemoryEntity => {
+            let (least, most) = two(node.leaves);
+            WireEntity::Memory(number(least), optional_number(most))
         }
-        (Row::MemoryEntity, Parts::Two(first, second)) => {
-            let least = number(first)?;
-            let most = optional_number(second)?;
-            Ok(WireEntity::Memory(least, most))
+        Row::GlobalEntity => {
+            let (value, mutable) = two(node.leaves);
+            WireEntity::Global(core_value(value), flag(mutable))
         }
-        (Row::GlobalEntity, Parts::Two(first, second)) => {
-            let value = core_value(first)?;
-            let mutable = flag(second)?;
-            Ok(WireEntity::Global(value, mutable))
-        }
-        _ => Err(AllocError),
+        _ => unreachable!(),
     }
 }
 
 /// An entity.
-pub fn entity(leaf: &Leaf<'_>) -> Result<WireEntity, AllocError>
-    ensures { (bytes : List ℕ) → IfOk result (λ v. m.node (entity_row v) ≡ leaf_of bytes leaf.now) }
+pub fn entity(leaf: &Leaf<'_, '_>) -> WireEntity
+    requires { IsRow IsEntity (leaf_of leaf.now) }
+    ensures { m.node (entity_row result) ≡ leaf_of leaf.now }
 {
     match leaf {
-        Leaf::Node(node) => {
-            let found = entity_of(node)?;
-            Ok(found)
-        }
-        _ => Err(AllocError),
+        Leaf::Node(node) => entity_of(node),
+        _ => unreachable!(),
     }
 }

@@ -1,4 +1,4 @@
-//! Scopes, and the definitions that hold one.
+//! Scopes, and definitions of all kinds.
 
 ghost use Rattle.std.specs.Prelude.{◌≡◌, IfOk};
 ghost use Rattle.comp_model.specs.Model as m;
@@ -6,56 +6,89 @@ ghost use Rattle.comp_model.specs.Model.{kind_of, no_leaf, ◌▸◌};
 ghost use Rattle.wire_tree.specs.Lists.{node_of, defs_listed};
 ghost use Rattle.wire_tree.specs.Model.{scope_of};
 ghost use Rattle.item_tree.specs.Model.{item_row, scope_of_tree, defs_listed as items_listed};
+ghost use Rattle.item_read.specs.Scopes.{AreDefinitions, HoldsOne, HoldsScope, IsDefinition, ScopeFits, held_kind};
 
-use crate::items::plain_item;
-use comp_model::{Row, ScopeKind};
+use crate::aliases::alias_of;
+use crate::canons::{canon_of, optioned_canon_of};
+use crate::core_types::core_type_of;
+use crate::items::{listed_item_of, plain_item_of};
+use crate::kinds::{Kind, kind_of};
+use crate::types::{listed_type_of, type_of};
+use comp_model::Row;
 use comp_wire::Seq;
 use item_tree::{Item, ItemCoreType, ItemType, Tree};
 use std::alloc::{AllocError, Global};
 use wire_tree::{Leaf, Node, Scope};
 
-/// The definition of a row that holds a tree of a kind.
+/// The definition of a row that holds a tree.
 #[tactic(auto, using(item_tree::proofs::Scopes::component_item, item_tree::proofs::Scopes::component_type_item, item_tree::proofs::Scopes::instance_type_item, item_tree::proofs::Scopes::module_type_item))]
-fn scoped<'a>(row: Row, kind: ScopeKind, tree: Tree<'a>) -> Result<Item<'a>, AllocError>
-    ensures { IfOk result (λ v. item_row v ≡ m.row row (m.scope (scope_of_tree kind tree.entry) ▸ no_leaf)) }
+fn holder<'a>(row: Row, tree: Tree<'a>) -> Item<'a>
+    requires { HoldsScope row }
+    ensures { item_row result ≡ m.row row (m.scope (scope_of_tree (held_kind row) tree.entry) ▸ no_leaf) }
 {
-    match (row, kind) {
-        (Row::Component, ScopeKind::Component) => Ok(Item::Component(tree)),
-        (Row::ComponentType, ScopeKind::ComponentType) => Ok(Item::Ty(ItemType::Component(tree))),
-        (Row::InstanceType, ScopeKind::InstanceType) => Ok(Item::Ty(ItemType::Instance(tree))),
-        (Row::ModuleType, ScopeKind::ModuleType) => Ok(Item::CoreType(ItemCoreType::Module(tree))),
-        _ => Err(AllocError),
+    match row {
+        Row::Component => Item::Component(tree),
+        Row::ComponentType => Item::Ty(ItemType::Component(tree)),
+        Row::InstanceType => Item::Ty(ItemType::Instance(tree)),
+        Row::ModuleType => Item::CoreType(ItemCoreType::Module(tree)),
+        _ => unreachable!(),
+    }
+}
+
+/// The definition that a node is which holds a scope.
+#[tactic(auto, using(crate::proofs::ByLength::counted_leaves, crate::proofs::Scopes::holder_row))]
+#[cycle(trees)]
+fn holder_of<'a>(alloc: Global, node: &Node<'_, 'a>) -> Result<Item<'a>, AllocError>
+    requires { HoldsOne (node_of node.now) }
+    ensures { IfOk result (λ v. item_row v ≡ node_of node.now) }
+{
+    match &node.leaves[0] {
+        Leaf::Scope(scope) => {
+            let tree = tree_of(alloc, scope)?;
+            Ok(holder(node.row, tree))
+        }
+        _ => unreachable!(),
     }
 }
 
 /// The definition that a node is.
 #[cycle(trees)]
-fn item_of<'a>(alloc: Global, bytes: &'a [u8], node: &Node<'_>) -> Result<Item<'a>, AllocError>
-    ensures { IfOk result (λ v. item_row v ≡ node_of bytes.now node.now) }
+fn item_of<'a>(alloc: Global, node: &Node<'_, 'a>) -> Result<Item<'a>, AllocError>
+    requires { IsDefinition (node_of node.now) }
+    ensures { IfOk result (λ v. item_row v ≡ node_of node.now) }
 {
-    if node.leaves.len() == 1 {
-        if let Leaf::Scope(scope) = &node.leaves[0] {
-            let defs = items_of(alloc, bytes, scope.defs)?;
-            let found = scoped(node.row, scope.kind, Tree { defs })?;
-            return Ok(found);
+    match kind_of(node.row) {
+        Kind::CoreType => {
+            let found = core_type_of(alloc, node)?;
+            Ok(Item::CoreType(found))
         }
+        Kind::Alias => Ok(Item::Alias(alias_of(node))),
+        Kind::Ty => Ok(Item::Ty(type_of(node))),
+        Kind::ListedType => {
+            let found = listed_type_of(alloc, node)?;
+            Ok(Item::Ty(found))
+        }
+        Kind::Canon => Ok(Item::Canon(canon_of(node))),
+        Kind::Optioned => {
+            let found = optioned_canon_of(alloc, node)?;
+            Ok(Item::Canon(found))
+        }
+        Kind::Plain => Ok(plain_item_of(node)),
+        Kind::Listed => listed_item_of(alloc, node),
+        Kind::Scope => holder_of(alloc, node),
     }
-    plain_item(alloc, bytes, node)
 }
 
 /// The definitions that nodes are.
 #[tactic(auto, using(crate::proofs::Scopes::all_items))]
 #[cycle(trees)]
-fn items_of<'a>(
-    alloc: Global,
-    bytes: &'a [u8],
-    nodes: &[Node<'_>],
-) -> Result<Seq<Item<'a>>, AllocError>
-    ensures { IfOk result (λ v. items_listed v ≡ defs_listed bytes.now nodes.now) }
+fn items_of<'a>(alloc: Global, nodes: &[Node<'_, 'a>]) -> Result<Seq<Item<'a>>, AllocError>
+    requires { AreDefinitions (defs_listed nodes.now) }
+    ensures { IfOk result (λ v. items_listed v ≡ defs_listed nodes.now) }
 {
     let mut found = Vec::new(alloc);
     for node in nodes {
-        let item = item_of(alloc, bytes, node)?;
+        let item = item_of(alloc, node)?;
         found.push(item)?;
     }
     Ok(Seq::from_vec(found))
@@ -63,13 +96,11 @@ fn items_of<'a>(
 
 /// The tree of a scope.
 #[tactic(auto, using(crate::proofs::Scopes::tree_stands))]
-pub fn tree_of<'a>(
-    alloc: Global,
-    bytes: &'a [u8],
-    scope: &Scope<'_>,
-) -> Result<Tree<'a>, AllocError>
-    ensures { IfOk result (λ v. scope_of_tree (kind_of (scope_of bytes.now scope.now)) v ≡ scope_of bytes.now scope.now) }
+#[cycle(trees)]
+pub fn tree_of<'a>(alloc: Global, scope: &Scope<'_, 'a>) -> Result<Tree<'a>, AllocError>
+    requires { ScopeFits (scope_of scope.now) }
+    ensures { IfOk result (λ v. scope_of_tree (kind_of (scope_of scope.now)) v ≡ scope_of scope.now) }
 {
-    let defs = items_of(alloc, bytes, scope.defs)?;
+    let defs = items_of(alloc, scope.defs)?;
     Ok(Tree { defs })
 }

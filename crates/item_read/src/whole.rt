@@ -14,14 +14,14 @@ use wire_read::{ReadError, ReadKind, read_tree};
 use wire_tree::Scope;
 
 /// The tree of a component that was read.
-#[tactic(auto, using(crate::proofs::Answers::tree_read))]
-fn tree_in<'a>(alloc: Global, bytes: &'a [u8], scope: &Scope<'_>) -> Result<Tree<'a>, ReadError>
+#[tactic(auto, using(crate::proofs::Answers::tree_read, crate::proofs::Answers::read_fits))]
+fn tree_in<'a>(alloc: Global, bytes: &'a [u8], scope: &Scope<'_, 'a>) -> Result<Tree<'a>, ReadError>
     requires small { length bytes.now ≤ bytes_limit }
-    requires reads { Reads bytes.now (scope_of bytes.now scope.now) }
-    requires shallow { IsShallow (scope_of bytes.now scope.now) }
+    requires reads { Reads bytes.now (scope_of scope.now) }
+    requires shallow { IsShallow (scope_of scope.now) }
     ensures { TreeAnswer bytes.now result }
 {
-    match tree_of(alloc, bytes, scope) {
+    match tree_of(alloc, scope) {
         Ok(tree) => Ok(tree),
         Err(_) => Err(ReadError {
             kind: ReadKind::NoMemory,

@@ -1,7 +1,11 @@
 use Rattle.std.proofs.Common.{ap, sym, ◌∙◌}
 use Rattle.comp_model.specs.Model as m
-use Rattle.item_read.proofs.Held.{node_held}
+use Rattle.item_read.specs.Rows.{IsDescription}
+use Rattle.item_read.proofs.Held.{node_held, row_held}
 use Rattle.item_read.proofs.rows.description.Goals as goal
 
-pub returns-in_ok-found-in-Node : goal.returns-in_ok-found-in-Node
-returns-in_ok-found-in-Node c bytes = ap m.node (c.in_ok-found-in-Node.ensures bytes) ∙ sym (node_held bytes c.args.leaf.now c.in-Node.node c.in-Node.is)
+pub description_of-requires : goal.description_of-requires
+description_of-requires c = row_held IsDescription c.args.leaf.now c.in-Node.node c.in-Node.is c.requires
+
+pub returns : goal.returns
+returns c = ap m.node c.description_of.ensures ∙ sym (node_held c.args.leaf.now c.in-Node.node c.in-Node.is)

@@ -1,12 +1,17 @@
-use Rattle.std.proofs.Common.{ap, sym, ◌∙◌, None}
-use Rattle.comp_model.specs.Model as m
-use Rattle.comp_model.specs.Model.{no_leaf, ◌▸◌}
-use Rattle.wire_tree.specs.declared.tree.Scope.{out-Scope}
-use Rattle.item_read.proofs.Scopes.{held_scope}
+use Rattle.std.proofs.Common.{rules}
+use Rattle.std.proofs.lemmas.List.{get_or_read}
+use borrow.Author.Tests.{tests}
+use Rattle.wire_tree.specs.declared.tree.Leaf.{the_lemmas}
+use Rattle.item_tree.specs.Model.{item_row}
+use Rattle.item_read.proofs.ListRows.{turn}
+use Rattle.item_read.proofs.Scopes.{one_definition, scope_definitions}
 use Rattle.item_read.proofs.trees.+trees.Goals as goal
 
-pub item_of-returns-in-Scope : goal.item_of-returns-in-Scope
-item_of-returns-in-Scope t c =
-    c.in_ok-found.ensures
-    ∙ ap (λ ds. m.row c.args.node.now.row (m.scope (m.scope_of (out-Scope c.in-Scope.scope.now).kind None None ds) ▸ no_leaf)) c.in_ok-defs.ensures
-    ∙ ap (m.row c.args.node.now.row) (sym (held_scope c.args.bytes.now c.args.node.now.leaves.now c.index-node-0.result c.in-Scope.scope c.if-node-eq1.true c.in-Scope.is))
+pub items_of-item_of-requires : goal.items_of-item_of-requires
+items_of-item_of-requires t c = (search (tests, rules, the_lemmas, get_or_read, c.well_formed), one_definition _ c.args.nodes.now c.loop-node.node-index c.requires c.loop-node-test.true)
+
+pub items_of-loop-node-preserved : goal.items_of-loop-node-preserved
+items_of-loop-node-preserved t c = turn item_row _ _ c.in_ok-item.item c.args.nodes.now c.loop-node.node-index _ c.loop-node-test.true c.in_ok-push.ensures.items c.in_ok-item.ensures c.loop-node.invariant
+
+pub tree_of-items_of-requires : goal.tree_of-items_of-requires
+tree_of-items_of-requires t c = (search (tests, rules, the_lemmas, get_or_read, c.well_formed), scope_definitions c.args.scope.now c.requires)
