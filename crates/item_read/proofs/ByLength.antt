@@ -1,5 +1,5 @@
 -- The leaves of a list, by how many they are.
-use Rattle.std.proofs.Common.{◌≡◌, ℕ, suc, refl, ap, ◌∙◌, List, [], ◌∷◌, length, get_or, arith}
+use Rattle.std.proofs.Common.{◌≡◌, suc, refl, ap, List, [], ◌∷◌, length, get_or, arith}
 use Rattle.comp_model.specs.Model.{no_leaf, ◌▸◌}
 use Rattle.wire_tree.specs.Model.{leaf_of}
 use Rattle.wire_tree.specs.Lists.{listed}

@@ -1,5 +1,5 @@
 -- Definitions have the leaves of their shapes, where they fit the table of bytes.
-use Rattle.std.proofs.Common.{◌≡◌, ℕ, Bool, true, false, Option, Some, None, List, [], ◌∷◌, ◌++◌, ◌⊎◌, ⊎_elim, length, refl, sym, subst, inl, inr, if◌then◌else◌}
+use Rattle.std.proofs.Common.{ℕ, Bool, true, false, Option, Some, List, [], ◌∷◌, ◌++◌, ◌⊎◌, ⊎_elim, sym, subst, inl, inr, if◌then◌else◌}
 use Rattle.comp_model.specs.declared.Space.TheVariants as space
 use Rattle.comp_model.specs.declared.row.Row.{Row}
 use Rattle.comp_model.specs.declared.row.Row.TheVariants as rows
@@ -8,13 +8,13 @@ use Rattle.comp_model.specs.RowNumbers.{same_row}
 use Rattle.comp_model.specs.Model.{Leaves, Node, row, Defs, no_def, one_def, define, Scope, scope_of}
 use Rattle.comp_wire.specs.Table as t
 use Rattle.comp_wire.specs.Table.{Family, Field, byte, Line, line, behind, core_type_lines, type_lines, alias_lines}
-use Rattle.comp_wire.specs.Spelled.{find, fits_leaves, FitsLine, FitsNode, FitsItem, FitsDeclarations, FitsDefinitions, FitsSections, declarations_of}
+use Rattle.comp_wire.specs.Spelled.{find, fits_leaves, FitsLine, FitsNode, FitsItem, FitsDeclarations, FitsDefinitions, FitsSections}
 use Rattle.comp_wire.specs.declared.sections.SectionKind.{SectionKind}
 use Rattle.comp_wire.specs.declared.sections.SectionKind.TheVariants as section_kinds
 use Rattle.comp_wire.specs.Sections.{section_of, rows_of}
-use Rattle.item_read.specs.Leaves.{IsText, IsModule, IsNumber, IsFlag, IsPrimitiveByte, IsValue, IsCoreValue, IsItem, IsIndex, IsKind, IsOutward, IsOfKind, IsResults, IsOptional, IsRow, IsList}
-use Rattle.item_read.specs.Rows.{IsNamedType, IsCase, IsLoneType, IsLoneName, IsCoreValueType, IsCoreFunction, IsCoreArgument, IsStartArgument, IsNamedItem, IsOption, IsDescription, IsEntity, Outer}
-use Rattle.item_read.specs.Scopes.{IsScope, IsDefinition, AreDefinitions, DefsFit, ScopeFits, defs_in}
+use Rattle.item_read.specs.Leaves.{IsText, IsModule, IsNumber, IsFlag, IsPrimitiveByte, IsValue, IsCoreValue, IsItem, IsIndex, IsKind, IsResults, IsOptional, IsRow, IsList}
+use Rattle.item_read.specs.Rows.{IsNamedType, IsCase, IsLoneType, IsLoneName, IsCoreValueType, IsCoreFunction, IsCoreArgument, IsStartArgument, IsNamedItem, IsOption, IsDescription, IsEntity}
+use Rattle.item_read.specs.Scopes.{IsDefinition, AreDefinitions, DefsFit, ScopeFits, defs_in}
 use Rattle.item_read.proofs.LeafFits.{string_at, name_at, rest_at, module_at, number_at, flag_at, async_at, primitive_at, value_at, maybe_at, result_at, core_at, index_at, function_at, item_at, sort_at, core_sort_at, results_at, list_at, row_at, maybe_row_at, component_at, type_at, nothing, one, two, three, one_scope, outer}
 use Rattle.item_read.proofs.EntryFits.{lone, named_type, case_of, lone_type, lone_name, core_value_type, core_function, core_argument, start_argument, core_export, argument, bundle_export, option, description, entity}
 

@@ -1,9 +1,8 @@
 -- Rows that stand in others have the leaves of their shapes, where they fit the table of bytes.
-use Rattle.std.proofs.Common.{◌≡◌, ℕ, Bool, true, false, Some, None, List, [], ◌∷◌, length, refl, sym, subst, inl, inr, if◌then◌else◌}
+use Rattle.std.proofs.Common.{◌≡◌, ℕ, Bool, true, false, Some, None, List, [], ◌∷◌, length, refl, if◌then◌else◌}
 use Rattle.comp_model.specs.declared.Space.TheVariants as space
 use Rattle.comp_model.specs.declared.row.Row.{Row}
 use Rattle.comp_model.specs.declared.row.Row.TheVariants as rows
-use Rattle.comp_model.specs.declared.row.ScopeKind.TheVariants as kinds
 use Rattle.comp_model.specs.RowNumbers.{same_row}
 use Rattle.comp_model.specs.Model.{Leaves, Node, row}
 use Rattle.comp_model.proofs.Tests.{same_row-true}

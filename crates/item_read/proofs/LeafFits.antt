@@ -1,5 +1,5 @@
 -- A leaf that fits its field of the table of bytes holds what its shape says.
-use Rattle.std.proofs.Common.{◌≡◌, ℕ, zero, suc, length, refl, sym, ap, ◌∙◌, subst, arith}
+use Rattle.std.proofs.Common.{◌≡◌, length, refl, sym, ap, ◌∙◌, subst, arith}
 use Rattle.comp_model.specs.declared.Space.{Space}
 use Rattle.comp_model.specs.declared.Space.TheVariants.{CoreFunc}
 use Rattle.comp_model.specs.declared.row.ScopeKind.{ScopeKind}

@@ -13,7 +13,6 @@ use Rattle.wire_tree.proofs.Leaves.{leaf_scope, scope_fields}
 use Rattle.item_tree.specs.declared.tree.Item.{Item}
 use Rattle.item_tree.specs.declared.tree.Tree.{Tree}
 use Rattle.item_tree.specs.Model.{item_row, defs_listed, scope_of_tree}
-use Rattle.item_read.specs.Parts.{count}
 use Rattle.item_read.specs.Scopes.{IsDefinition, AreDefinitions, HoldsOne, ScopeFits, held_kind}
 use Rattle.item_read.proofs.ByLength.{one_leaf}
 use Rattle.item_read.proofs.DefinitionFits.{all_definitions}
