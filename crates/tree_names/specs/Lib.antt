@@ -11,3 +11,4 @@ pub mod Ready
 pub mod Read
 pub mod ReadLeft
 pub mod Resolved
+pub mod Size
