@@ -13,3 +13,4 @@ pub mod Kept
 pub mod Definitions
 pub mod ReadyParts
 pub mod Sizes
+pub mod Room

@@ -182,7 +182,7 @@ root_needs : (ms : List Opened) (j u : ℕ) (s : Space) (i : Index) (c : Counter
 root_needs ms j u s (index.Num n p) c = refl
 root_needs ms j u s (index.Id x) c = refl
 
-root_steps : (i : Index) → steps (root_of i) ≡ 0
+pub root_steps : (i : Index) → steps (root_of i) ≡ 0
 root_steps (index.Num n p) = refl
 root_steps (index.Id x) = refl
 
@@ -213,7 +213,7 @@ path_more os s p t n old mid new i k a m e =
       index = λ ms c w h. m.index ∙ ap (λ (z : Space → ℕ). z s) (a.counts c h);
     }
 
-steps_behind : (p : Path) (ts : List (Bor Text)) → steps (path_from p ts) ≡ steps p + length ts
+pub steps_behind : (p : Path) (ts : List (Bor Text)) → steps (path_from p ts) ≡ steps p + length ts
 steps_behind p [] = omega arith
 steps_behind p (t ∷ ts) = let e : steps (path_from (export_of p t.now) ts) ≡ (steps p + 1) + length ts = steps_behind (export_of p t.now) ts in omega (arith, e)
 

@@ -60,10 +60,10 @@ drop_sum zero m vs = let z : zero + m ≡ m = omega arith in ap (λ n. drop n vs
 drop_sum (suc i) m [] = drop_nil (suc i + m) ∙ sym (drop_nil m)
 drop_sum (suc i) m (v ∷ vs) = let n : suc i + m ≡ suc (i + m) = omega arith in ap (λ k. drop k (v ∷ vs)) n ∙ drop_sum i m vs
 
-first_from : {a : Reading} {c : Counters} (s t more : List (Option ℕ)) → ReadsFrom a c (s ++ t) more → ReadsFrom a c s (t ++ more)
+pub first_from : {a : Reading} {c : Counters} (s t more : List (Option ℕ)) → ReadsFrom a c (s ++ t) more → ReadsFrom a c s (t ++ more)
 first_from s t more h = record { counts = h.counts; served = h.served ∙ append_assoc s t more }
 
-next_from : {a b : Reading} {c : Counters} (t more : List (Option ℕ)) (needs : ℕ → List ℕ → List Made) → ReadsTo a b c (t ++ more) needs → ReadsFrom b c t more
+pub next_from : {a b : Reading} {c : Counters} (t more : List (Option ℕ)) (needs : ℕ → List ℕ → List Made) → ReadsTo a b c (t ++ more) needs → ReadsFrom b c t more
 next_from t more needs h = record { counts = h.counts; served = h.served }
 
 module _ {os : List Open} where

@@ -12,3 +12,4 @@ pub mod Read
 pub mod ReadLeft
 pub mod Resolved
 pub mod Size
+pub mod Room

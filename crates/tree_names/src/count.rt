@@ -16,6 +16,8 @@ ghost use Rattle.open_scopes.specs.Shown.{found_of};
 ghost use Rattle.tree_names.specs.AllFound.{name_found, root_found, all_found, leaf_found, nodes_found, FoundBehind};
 ghost use Rattle.tree_names.specs.Counted.{Refused, SumsShow, Summed, NameCounted, LeafCounted, LeavesCounted, NodesCounted};
 ghost use Rattle.tree_names.specs.Served.{name_served};
+ghost use Rattle.tree_names.specs.Room.{CountersHaveRoom, SumsHaveRoom};
+ghost use Rattle.comp_tables.specs.Bounds.{most_needs, most_needs_leaf, most_needs_nodes};
 
 use crate::denotations::find_kept;
 use crate::path::{count_steps, instance_space, path_allowed};
@@ -35,6 +37,7 @@ fn count_denoted(
     sums: &mut Sums,
 ) -> Result<(), Error>
     requires sized { length sums.old.counters ≡ 13 }
+    requires room { CountersHaveRoom sums.old.counters 1 }
     ensures sized { OnOk result (length sums.new.counters ≡ 13) }
     ensures summed { OnOk result ((d : Option Denoted) (c : Counters) → denoted ≡ option_map found_of d → SumsShow sums.old c → Summed sums.old sums.new (past_name space (leads_out (lent_reach reach.entry) d) d c) (name_served space (leads_out (lent_reach reach.entry) d) d c)) }
     ensures refused { IfErr result (λ e. e ≡ no_memory) }
@@ -62,6 +65,7 @@ fn count_name<'a>(
 ) -> Result<(), Error>
     requires few { length scopes.now < 2 ^ 32 }
     requires sized { length sums.old.counters ≡ 13 }
+    requires room { CountersHaveRoom sums.old.counters 1 }
     ensures counted { MatchResult result (λ done. NameCounted scopes.now space (reach_of reach.entry) (id_of id.entry) sums.old sums.new) (Refused scopes.now (λ ms. unmet_kind (reach_of reach.entry) space (id_of id.entry) (found_among ms space (reach_of reach.entry) (id_of id.entry)))) }
     ensures kept { OnOk result (FoundBehind scopes.now (λ ms. name_found ms space (reach_of reach.entry) (id_of id.entry) ∷ []) found.old.items found.new.items) }
 {
@@ -87,6 +91,7 @@ fn count_named<'a>(
 ) -> Result<(), Error>
     requires few { length scopes.now < 2 ^ 32 }
     requires sized { length sums.old.counters ≡ 13 }
+    requires room { CountersHaveRoom sums.old.counters 1 }
     ensures counted { MatchResult result (λ done. LeafCounted scopes.now sums.old sums.new (m.ref space (m.name (reach_of reach.entry) (id_of id.entry)))) (Refused scopes.now (λ ms. unmet_kinds_leaf ms (m.ref space (m.name (reach_of reach.entry) (id_of id.entry))))) }
     ensures kept { OnOk result (FoundBehind scopes.now (λ ms. leaf_found ms (m.ref space (m.name (reach_of reach.entry) (id_of id.entry)))) found.old.items found.new.items) }
 {
@@ -104,6 +109,7 @@ fn count_index<'a>(
 ) -> Result<(), Error>
     requires few { length scopes.now < 2 ^ 32 }
     requires sized { length sums.old.counters ≡ 13 }
+    requires room { CountersHaveRoom sums.old.counters (most_needs_leaf (m.ref space (index_of (reach_of reach) index))) }
     ensures counted { MatchResult result (λ done. LeafCounted scopes.now sums.old sums.new (m.ref space (index_of (reach_of reach.entry) index.entry))) (Refused scopes.now (λ ms. unmet_kinds_leaf ms (m.ref space (index_of (reach_of reach.entry) index.entry)))) }
     ensures kept { OnOk result (FoundBehind scopes.now (λ ms. leaf_found ms (m.ref space (index_of (reach_of reach.entry) index.entry))) found.old.items found.new.items) }
 {
@@ -144,6 +150,7 @@ fn count_path<'a>(
 ) -> Result<(), Error>
     requires few { length scopes.now < 2 ^ 32 }
     requires sized { length sums.old.counters ≡ 13 }
+    requires room { CountersHaveRoom sums.old.counters (most_needs_leaf (m.ref space (path_of root exports.now))) }
     ensures counted { MatchResult result (λ done. LeafCounted scopes.now sums.old sums.new (m.ref space (path_of root.entry exports.now))) (Refused scopes.now (λ ms. unmet_kinds_leaf ms (m.ref space (path_of root.entry exports.now)))) }
     ensures kept { OnOk result (FoundBehind scopes.now (λ ms. leaf_found ms (m.ref space (path_of root.entry exports.now))) found.old.items found.new.items) }
 {
@@ -157,7 +164,7 @@ fn count_path<'a>(
         });
     }
     count_root(scopes, instance_space(space), root, found)?;
-    count_steps(space, root, exports, &mut sums.counters)?;
+    count_steps(space, root, exports, &mut sums.counters);
     Ok(())
 }
 
@@ -170,6 +177,7 @@ fn count_core_value<'a>(
 ) -> Result<(), Error>
     requires few { length scopes.now < 2 ^ 32 }
     requires sized { length sums.old.counters ≡ 13 }
+    requires room { CountersHaveRoom sums.old.counters (most_needs_leaf (m.core_value (core_value_of value))) }
     ensures counted { MatchResult result (λ done. LeafCounted scopes.now sums.old sums.new (m.core_value (core_value_of value.entry))) (Refused scopes.now (λ ms. unmet_kinds_leaf ms (m.core_value (core_value_of value.entry)))) }
     ensures kept { OnOk result (FoundBehind scopes.now (λ ms. leaf_found ms (m.core_value (core_value_of value.entry))) found.old.items found.new.items) }
 {
@@ -195,6 +203,7 @@ fn count_leaf<'a>(
     requires few { length scopes.now < 2 ^ 32 }
     requires sized { length sums.old.counters ≡ 13 }
     requires expanded { (C : List CoreModule) × LeafExpanded (leaf_of C leaf.now) }
+    requires room { (C : List CoreModule) × SumsHaveRoom sums.old (most_needs_leaf (leaf_of C leaf.now)) }
     ensures counted { (C : List CoreModule) → MatchResult result (λ done. LeafCounted scopes.now sums.old sums.new (leaf_of C leaf.now)) (Refused scopes.now (λ ms. unmet_kinds_leaf ms (leaf_of C leaf.now))) }
     ensures kept { (C : List CoreModule) → OnOk result (FoundBehind scopes.now (λ ms. leaf_found ms (leaf_of C leaf.now)) found.old.items found.new.items) }
 {
@@ -222,13 +231,12 @@ fn count_leaf<'a>(
     }
 }
 
-/// Passes leaves of a definition of an expanded list, one after the other. Each name in them is looked up, and what it denotes goes behind
+/// Passes leaves of a definition of an expanded list, one after the other, for all of which there are indices below 2^32 - 1. Each name in them is looked up, and what it denotes goes behind
 /// what was found so far. The aliases of a path are counted in their spaces, and so is the alias of a name that leads out, unless one of
 /// the same item stands already and serves it too.
 ///
 /// A name that leads out to an item of which there is no outer alias is `OuterKind`, at the name, and a path to a core type or a core
-/// instance `CoreExportKind`, at its root; the first of these is the refusal. Otherwise want of memory is `NoMemory` at 0, and so is an
-/// index from 2^32 - 1 on.
+/// instance `CoreExportKind`, at its root; the first of these is the refusal. Otherwise want of memory is `NoMemory` at 0.
 #[cycle(counting)]
 pub fn count_leaves<'a>(
     scopes: &[Open<'a>],
@@ -239,6 +247,7 @@ pub fn count_leaves<'a>(
     requires few { length scopes.now < 2 ^ 32 }
     requires sized { length sums.old.counters ≡ 13 }
     requires expanded { (C : List CoreModule) × LeavesExpanded (listed C leaves.now) }
+    requires room { (C : List CoreModule) × SumsHaveRoom sums.old (most_needs (listed C leaves.now)) }
     ensures counted { (C : List CoreModule) → MatchResult result (λ done. LeavesCounted scopes.now sums.old sums.new (listed C leaves.now)) (Refused scopes.now (λ ms. unmet_kinds ms (listed C leaves.now))) }
     ensures kept { (C : List CoreModule) → OnOk result (FoundBehind scopes.now (λ ms. all_found ms (listed C leaves.now)) found.old.items found.new.items) }
 {
@@ -262,6 +271,7 @@ fn count_nodes<'a>(
     requires few { length scopes.now < 2 ^ 32 }
     requires sized { length sums.old.counters ≡ 13 }
     requires expanded { (C : List CoreModule) × NodesExpanded (nodes_listed C nodes.now) }
+    requires room { (C : List CoreModule) × SumsHaveRoom sums.old (most_needs_nodes (nodes_listed C nodes.now)) }
     ensures counted { (C : List CoreModule) → MatchResult result (λ done. NodesCounted scopes.now sums.old sums.new (nodes_listed C nodes.now)) (Refused scopes.now (λ ms. unmet_kinds_nodes ms (nodes_listed C nodes.now))) }
     ensures kept { (C : List CoreModule) → OnOk result (FoundBehind scopes.now (λ ms. nodes_found ms (nodes_listed C nodes.now)) found.old.items found.new.items) }
 {

@@ -16,6 +16,7 @@ ghost use Rattle.tree_names.specs.AllFound.{leaf_found, FoundFirst};
 ghost use Rattle.tree_names.specs.Counted.{Refused, RefusedBy};
 ghost use Rattle.tree_names.specs.Read.{LeafRead, LeavesRead, NodesRead, PlaceRead};
 ghost use Rattle.tree_names.specs.Rooted.{Rooted};
+ghost use Rattle.tree_names.specs.Room.{HasRoom, RoomForLeaf};
 
 use crate::name::{resolve_name, resolve_steps};
 use crate::reading::{Reading, refer};
@@ -28,14 +29,12 @@ use tree_walks::lend_reach;
 use wast_parser::{Error, Id, Index, Span};
 
 /// Passes a reference by a number, which stays as it is.
-pub(crate) fn pass_numeral(reading: &mut Reading<'_, '_>) -> Result<(), Error>
+pub(crate) fn pass_numeral(reading: &mut Reading<'_, '_>)
     requires sized { length reading.old.counters ≡ 13 }
-    ensures { (e : Encoding) (os : List OpenScope) (s : ModelSpace) (o n : ℕ) → MatchResult result (λ done. LeafRead e os reading.old reading.new (m.ref s (m.numeral o n)) (m.ref s (m.numeral o n))) (Refused os (λ ms. missing_leaf e ms (m.ref s (m.numeral o n)))) }
+    requires room { HasRoom reading.old 0 1 }
+    ensures { (e : Encoding) (os : List OpenScope) (s : ModelSpace) (o n : ℕ) → LeafRead e os reading.old reading.new (m.ref s (m.numeral o n)) (m.ref s (m.numeral o n)) }
 {
-    match refer(&mut reading.place) {
-        Ok(()) => Ok(()),
-        Err(refused) => Err(refused),
-    }
+    refer(&mut reading.place);
 }
 
 /// The index of a reference by a name.
@@ -49,6 +48,7 @@ pub(crate) fn resolve_named<'a>(
     requires indexed { OpenIndexed scopes.now }
     requires sized { length reading.old.counters ≡ 13 }
     requires kept { FoundFirst scopes.now (λ ms. leaf_found ms (m.ref space (m.name (reach_of reach) (id_of id)))) reading.old.denotations.left.now }
+    requires room { HasRoom reading.old 1 1 }
     ensures { (e : Encoding) (o : ℕ) → MatchResult result (λ i. LeafRead e scopes.now reading.old reading.new (m.ref space (m.name (reach_of reach.entry) (id_of id.entry))) (m.ref space (m.numeral o i))) (Refused scopes.now (λ ms. missing_leaf e ms (m.ref space (m.name (reach_of reach.entry) (id_of id.entry))))) }
 {
     match resolve_name(scopes, space, lend_reach(reach), id, reading) {
@@ -68,13 +68,14 @@ fn resolve_index<'a>(
     requires indexed { OpenIndexed scopes.now }
     requires sized { length reading.old.counters ≡ 13 }
     requires kept { FoundFirst scopes.now (λ ms. leaf_found ms (m.ref space (index_of (reach_of reach) index))) reading.old.denotations.left.now }
+    requires room { RoomForLeaf reading.old (m.ref space (index_of (reach_of reach) index)) }
     ensures { (e : Encoding) (o : ℕ) → MatchResult result (λ i. LeafRead e scopes.now reading.old reading.new (m.ref space (index_of (reach_of reach.entry) index.entry)) (m.ref space (m.numeral o i))) (Refused scopes.now (λ ms. missing_leaf e ms (m.ref space (index_of (reach_of reach.entry) index.entry)))) }
 {
     match index {
-        Index::Num(number, _) => match refer(&mut reading.place) {
-            Ok(()) => Ok(number),
-            Err(refused) => Err(refused),
-        },
+        Index::Num(number, _) => {
+            refer(&mut reading.place);
+            Ok(number)
+        }
         Index::Id(id) => resolve_named(scopes, space, reach, id, reading),
     }
 }
@@ -90,6 +91,7 @@ pub(crate) fn resolve_path<'a>(
     requires indexed { OpenIndexed scopes.now }
     requires sized { length reading.old.counters ≡ 13 }
     requires kept { FoundFirst scopes.now (λ ms. leaf_found ms (m.ref space (path_of root exports.now))) reading.old.denotations.left.now }
+    requires room { RoomForLeaf reading.old (m.ref space (path_of root exports.now)) }
     requires rooted { Rooted scopes.now (λ ms. missing_roots_leaf ms (m.ref space (path_of root exports.now))) }
     ensures { (e : Encoding) (o : ℕ) → MatchResult result (λ i. LeafRead e scopes.now reading.old reading.new (m.ref space (path_of root.entry exports.now)) (m.ref space (m.numeral o i))) (Refused scopes.now (λ ms. missing_leaf e ms (m.ref space (path_of root.entry exports.now)))) }
 {
@@ -97,10 +99,10 @@ pub(crate) fn resolve_path<'a>(
         return resolve_index(scopes, space, Reach::Outward, root, reading);
     }
     match resolve_steps(scopes, space, root, exports, reading) {
-        Ok(number) => match refer(&mut reading.place) {
-            Ok(()) => Ok(number),
-            Err(refused) => Err(refused),
-        },
+        Ok(number) => {
+            refer(&mut reading.place);
+            Ok(number)
+        }
         Err(refused) => Err(refused),
     }
 }
@@ -115,13 +117,14 @@ fn resolve_core_index<'a>(
     requires indexed { OpenIndexed scopes.now }
     requires sized { length reading.old.counters ≡ 13 }
     requires kept { (b : Bool) → FoundFirst scopes.now (λ ms. leaf_found ms (m.core_value (core_reference b (reach_of reach) index))) reading.old.denotations.left.now }
+    requires room { (b : Bool) → RoomForLeaf reading.old (m.core_value (core_reference b (reach_of reach) index)) }
     ensures { (e : Encoding) (b : Bool) → MatchResult result (λ i. LeafRead e scopes.now reading.old reading.new (m.core_value (core_reference b (reach_of reach.entry) index.entry)) (m.core_value (core_reference b outward i))) (Refused scopes.now (λ ms. missing_leaf e ms (m.core_value (core_reference b (reach_of reach.entry) index.entry)))) }
 {
     match index {
-        Index::Num(_, _) => match refer(&mut reading.place) {
-            Ok(()) => Ok(index),
-            Err(refused) => Err(refused),
-        },
+        Index::Num(_, _) => {
+            refer(&mut reading.place);
+            Ok(index)
+        }
         Index::Id(id) => {
             match resolve_name(scopes, Space::CoreType, lend_reach(reach), id, reading) {
                 Ok(number) => Ok(Index::Num(number, id.span())),
@@ -141,6 +144,7 @@ pub(crate) fn resolve_core_value<'t, 'a>(
     requires indexed { OpenIndexed scopes.now }
     requires sized { length reading.old.counters ≡ 13 }
     requires kept { FoundFirst scopes.now (λ ms. leaf_found ms (m.core_value (core_value_of value))) reading.old.denotations.left.now }
+    requires room { RoomForLeaf reading.old (m.core_value (core_value_of value)) }
     ensures { (e : Encoding) → MatchResult result (λ v. LeafRead e scopes.now reading.old reading.new (m.core_value (core_value_of value.entry)) (m.core_value (core_value_of v))) (Refused scopes.now (λ ms. missing_leaf e ms (m.core_value (core_value_of value.entry)))) }
 {
     match value {

@@ -9,6 +9,7 @@ ghost use Rattle.tree_names.specs.AllFound.{all_found, leaf_found, nodes_found, 
 ghost use Rattle.tree_names.specs.Counted.{Refused};
 ghost use Rattle.tree_names.specs.Read.{LeafRead, LeavesRead, NodesRead};
 ghost use Rattle.tree_names.specs.Ready.{LeafReady, LeavesReady, NodesReady};
+ghost use Rattle.tree_names.specs.Room.{LeafInRoom, LeavesInRoom, NodesInRoom};
 
 use crate::cases::{check_case, keep_case, no_cases};
 use crate::core_rule::{CoreRule, check_core};
@@ -26,7 +27,7 @@ use wast_parser::{Error, Index};
 /// A name that denotes nothing is `Unknown`, at the name; so it is in the scope of a count outward, but that is `OuterCount`, at the word
 /// `alias`, where as many scopes aren't open, and an id of no open scope is `OuterComponent`, there; a case whose id an earlier one bears
 /// is `Duplicate`, at the id; a core module breaks the rule. The first of these is the refusal. Otherwise want of memory is `NoMemory` at
-/// 0, and so are indices and numbers from 2^32 - 1 on. The roots of paths were looked at before, and no scope stands in the leaf.
+/// 0. The roots of paths were looked at before, no scope stands in the leaf, and there are numbers below 2^32 - 1 for all that it needs.
 #[cycle(resolving)]
 fn resolve_leaf<'t, 'a, M: CoreRule>(
     alloc: Global,
@@ -41,6 +42,7 @@ fn resolve_leaf<'t, 'a, M: CoreRule>(
     requires sized { length reading.old.counters ≡ 13 }
     requires ready { LeafReady scopes.now (leaf_of (map M.core_module cores.now) leaf.now) }
     requires kept { FoundFirst scopes.now (λ ms. leaf_found ms (leaf_of (map M.core_module cores.now) leaf.now)) reading.old.denotations.left.now }
+    requires room { LeafInRoom scopes.now reading.old (leaf_of (map M.core_module cores.now) leaf.now) }
     ensures { MatchResult result (λ new. LeafRead M.encoding scopes.now reading.old reading.new (leaf_of (map M.core_module cores.now) leaf.now) (leaf_of (map M.core_module cores.now) new)) (Refused scopes.now (λ ms. missing_leaf M.encoding ms (leaf_of (map M.core_module cores.now) leaf.now))) }
 {
     match leaf {
@@ -48,10 +50,10 @@ fn resolve_leaf<'t, 'a, M: CoreRule>(
             Ok(value) => Ok(Leaf::CoreValue(value)),
             Err(refused) => Err(refused),
         },
-        Leaf::Numeral(_, _, _) => match pass_numeral(reading) {
-            Ok(()) => Ok(*leaf),
-            Err(refused) => Err(refused),
-        },
+        Leaf::Numeral(_, _, _) => {
+            pass_numeral(reading);
+            Ok(*leaf)
+        }
         Leaf::Name(space, reach, id) => {
             match resolve_named(scopes, *space, **reach, **id, reading) {
                 Ok(number) => Ok(Leaf::Numeral(*space, number, id.span())),
@@ -136,6 +138,7 @@ pub(crate) fn resolve_leaves<'t, 'a, M: CoreRule>(
     requires sized { length reading.old.counters ≡ 13 }
     requires ready { LeavesReady scopes.now (listed (map M.core_module cores.now) leaves.now) }
     requires kept { FoundFirst scopes.now (λ ms. all_found ms (listed (map M.core_module cores.now) leaves.now)) reading.old.denotations.left.now }
+    requires room { LeavesInRoom scopes.now reading.old (listed (map M.core_module cores.now) leaves.now) }
     ensures { MatchResult result (λ new. LeavesRead M.encoding scopes.now reading.old reading.new (listed (map M.core_module cores.now) leaves.now) (listed (map M.core_module cores.now) new.now)) (Refused scopes.now (λ ms. missing M.encoding ms (listed (map M.core_module cores.now) leaves.now))) }
 {
     let mut all = Vec::new(alloc);
@@ -169,6 +172,7 @@ fn resolve_nodes<'t, 'a, M: CoreRule>(
     requires sized { length reading.old.counters ≡ 13 }
     requires ready { NodesReady scopes.now (nodes_listed (map M.core_module cores.now) nodes.now) }
     requires kept { FoundFirst scopes.now (λ ms. nodes_found ms (nodes_listed (map M.core_module cores.now) nodes.now)) reading.old.denotations.left.now }
+    requires room { NodesInRoom scopes.now reading.old (nodes_listed (map M.core_module cores.now) nodes.now) }
     ensures { MatchResult result (λ new. NodesRead M.encoding scopes.now [] reading.old reading.new (nodes_listed (map M.core_module cores.now) nodes.now) (nodes_listed (map M.core_module cores.now) new.now)) (Refused scopes.now (λ ms. missing_nodes M.encoding ms [] (nodes_listed (map M.core_module cores.now) nodes.now))) }
 {
     let mut all = Vec::new(alloc);

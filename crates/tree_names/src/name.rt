@@ -1,6 +1,6 @@
 //! Names and paths, looked up among open scopes.
 
-ghost use Rattle.std.specs.Prelude.{◌≡◌, ◌<◌, ◌∷◌, [], List, length, None, MatchResult, IfErr, IfOk, OnOk};
+ghost use Rattle.std.specs.Prelude.{◌≡◌, ◌<◌, ◌^◌, ◌+◌, ◌∷◌, [], List, length, None, MatchResult, IfErr, IfOk, OnOk};
 ghost use Rattle.comp_scopes.specs.References.{instance_space};
 ghost use Rattle.comp_tables.specs.Tables.{Counters, Opened, found, found_path_index};
 ghost use Rattle.comp_tables.specs.Built.{missing_name, missing_root};
@@ -13,12 +13,12 @@ ghost use Rattle.tree_names.specs.AllFound.{name_found, root_found, FoundFirst, 
 ghost use Rattle.tree_names.specs.Counted.{Refused, RefusedBy};
 ghost use Rattle.tree_names.specs.Read.{NameRead, PathRead, OuterMade, OuterRead, StepMade};
 ghost use Rattle.tree_names.specs.Rooted.{Rooted};
+ghost use Rattle.tree_names.specs.Room.{CountersHaveRoom, HasRoom};
 
 use crate::denotations::Denotations;
 use crate::generated::Generated;
 use crate::path::instance_space;
 use crate::reading::{Reading, refer};
-use crate::refusals::no_memory;
 use comp_model::Space;
 use comp_walks::Reach;
 use open_scopes::{Found, Open, index_of, leads_out, missing_name};
@@ -42,6 +42,7 @@ fn generate_outer<'a>(
     reading: &mut Reading<'a, '_>,
 ) -> Result<u32, Error>
     requires sized { length reading.old.counters ≡ 13 }
+    requires room { HasRoom reading.old 1 1 }
     ensures done { IfOk result (λ i. OuterMade space found.depth index reading.old reading.new i) }
     ensures refused { IfErr result (λ e. e ≡ no_memory) }
 {
@@ -56,7 +57,7 @@ fn generate_outer<'a>(
             place,
         },
     )?;
-    refer(&mut reading.place)?;
+    refer(&mut reading.place);
     Ok(next)
 }
 
@@ -68,14 +69,15 @@ fn resolve_outer<'a>(
     reading: &mut Reading<'a, '_>,
 ) -> Result<u32, Error>
     requires sized { length reading.old.counters ≡ 13 }
+    requires room { HasRoom reading.old 1 1 }
     ensures done { IfOk result (λ i. OuterRead space found.depth index reading.old reading.new i) }
     ensures refused { IfErr result (λ e. e ≡ no_memory) }
 {
     match reading.denotations.next_alias() {
-        Some(alias) => match refer(&mut reading.place) {
-            Ok(()) => Ok(alias),
-            Err(refused) => Err(refused),
-        },
+        Some(alias) => {
+            refer(&mut reading.place);
+            Ok(alias)
+        }
         None => match generate_outer(space, found, index, reading) {
             Ok(next) => Ok(next),
             Err(refused) => Err(refused),
@@ -94,6 +96,7 @@ pub(crate) fn resolve_name<'a>(
     requires indexed { OpenIndexed scopes.now }
     requires sized { length reading.old.counters ≡ 13 }
     requires kept { FoundFirst scopes.now (λ ms. name_found ms space (reach_of reach) (id_of id) ∷ []) reading.old.denotations.left.now }
+    requires room { HasRoom reading.old 1 1 }
     ensures { MatchResult result (λ i. NameRead scopes.now space (reach_of reach.entry) (id_of id.entry) reading.old reading.new i) (Refused scopes.now (λ ms. missing_name ms (reach_of reach.entry) (id_of id.entry) (found ms space (reach_of reach.entry) (id_of id.entry)))) }
 {
     match reading.denotations.next() {
@@ -105,10 +108,8 @@ pub(crate) fn resolve_name<'a>(
                     Err(refused) => Err(refused),
                 }
             } else {
-                match refer(&mut reading.place) {
-                    Ok(()) => Ok(index),
-                    Err(refused) => Err(refused),
-                }
+                refer(&mut reading.place);
+                Ok(index)
             }
         }
         None => Err(refuse_name(scopes, reach, id)),
@@ -147,6 +148,7 @@ fn resolve_step<'a>(
     reading: &mut Reading<'a, '_>,
 ) -> Result<u32, Error>
     requires sized { length reading.old.counters ≡ 13 }
+    requires room { CountersHaveRoom reading.old.counters 1 }
     ensures done { IfOk result (λ i. StepMade space index name.now step reading.old reading.new i) }
     ensures refused { IfErr result (λ e. e ≡ no_memory) }
 {
@@ -176,6 +178,7 @@ pub(crate) fn resolve_steps<'a>(
     requires indexed { OpenIndexed scopes.now }
     requires sized { length reading.old.counters ≡ 13 }
     requires some { 0 < length exports.now }
+    requires room { CountersHaveRoom reading.old.counters (length exports.now) }
     requires rooted { Rooted scopes.now (λ ms. missing_root ms (instance_space space) (root_of root)) }
     requires kept { FoundFirst scopes.now (λ ms. root_found ms (instance_space space) (root_of root)) reading.old.denotations.left.now }
     ensures taken { OnOk result (FoundTaken scopes.now (λ ms. root_found ms (instance_space space) (root_of root.entry)) reading.old.denotations.left.now reading.new.denotations.left.now) }
@@ -184,9 +187,6 @@ pub(crate) fn resolve_steps<'a>(
     ensures refused { IfErr result (λ e. e ≡ no_memory) }
 {
     let last = exports.len() - 1;
-    if last >= u32::MAX as usize {
-        return Err(no_memory());
-    }
     let inner = instance_space(space);
     let mut index = resolve_root(scopes, inner, root, &mut reading.denotations);
     for step in 0..last {

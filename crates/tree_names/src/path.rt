@@ -1,17 +1,17 @@
 //! Paths of export names.
 
-ghost use Rattle.std.specs.Prelude.{◌≡◌, ◌<◌, [], ◌∷◌, length, true, OnOk, IfErr};
+ghost use Rattle.std.specs.Prelude.{◌≡◌, ◌<◌, length};
 ghost use Rattle.comp_scopes.specs.References.{instance_space};
 ghost use Rattle.comp_scopes.specs.Rule.{path_allowed};
 ghost use Rattle.comp_tables.specs.Tables.{Counters as ModelCounters, past_path};
 ghost use Rattle.comp_tables.specs.Walks.{counters_in};
 ghost use Rattle.comp_tree.specs.Model.{root_of, path_from};
-ghost use Rattle.open_scopes.specs.Refusals.{no_memory};
+ghost use Rattle.tree_names.specs.Room.{CountersHaveRoom};
 
 use crate::sums::declare;
 use comp_model::Space;
 use open_scopes::Counters;
-use wast_parser::{Error, Index};
+use wast_parser::Index;
 
 /// The space of the instance that exports an item of a space.
 pub fn instance_space(space: Space) -> Space
@@ -39,24 +39,23 @@ pub(crate) fn path_allowed(space: Space) -> bool
     }
 }
 
-/// Passes the aliases of a path to an item of a space. A counter at 2^32 - 1 is `NoMemory` at 0.
+/// Passes the aliases of a path to an item of a space, for which there are indices below 2^32 - 1.
 pub(crate) fn count_steps(
     space: Space,
     root: Index<'_>,
     exports: &[&str],
     counters: &mut Counters,
-) -> Result<(), Error>
+)
     requires sized { length counters.old ≡ 13 }
     requires some { 0 < length exports.now }
-    ensures counters { OnOk result ((c : ModelCounters) → counters_in counters.old ≡ c.counts → counters_in counters.new ≡ (past_path space (path_from (root_of root.entry) exports.now) c).counts) }
-    ensures sized { OnOk result (length counters.new ≡ 13) }
-    ensures refused { IfErr result (λ e. e ≡ no_memory) }
+    requires room { CountersHaveRoom counters.old (length exports.now) }
+    ensures counters { (c : ModelCounters) → counters_in counters.old ≡ c.counts → counters_in counters.new ≡ (past_path space (path_from (root_of root.entry) exports.now) c).counts }
+    ensures sized { length counters.new ≡ 13 }
 {
     let inner = instance_space(space);
     let last = exports.len() - 1;
     for _ in 0..last {
-        declare(counters, inner)?;
+        declare(counters, inner);
     }
-    declare(counters, space)?;
-    Ok(())
+    declare(counters, space);
 }

@@ -5,7 +5,7 @@ ghost use Rattle.open_scopes.specs.Refusals.{no_memory};
 
 use wast_parser::{Error, ErrorKind};
 
-/// Want of memory, and of numbers below 2^32 - 1.
+/// Want of memory: an allocation was refused.
 pub fn no_memory() -> Error
     ensures { result ≡ no_memory }
 {

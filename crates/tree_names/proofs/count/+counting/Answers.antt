@@ -8,32 +8,36 @@ use Rattle.tree_names.specs.AllFound.{all_found, nodes_found}
 use Rattle.tree_names.proofs.Fronts.{leaf_kept, leaves_kept, node_kept, nodes_kept, same_kept, core_kept}
 use Rattle.tree_names.proofs.Counting.{same_leaf, core_counted, leaves_step, leaves_refused, leaves_end, nodes_step, nodes_refused, nodes_end}
 use Rattle.tree_names.proofs.ReadyParts.{leaf_expanded_at, node_expanded_at, present_expanded, node_expanded, nodes_expanded}
+use Rattle.tree_names.proofs.Room.{sums_present, sums_node, sums_nodes, sums_first, sums_then, sums_first_node, sums_then_node}
 use Rattle.tree_names.proofs.Sizes.{present_below, node_below, nodes_below, leaf_below, leaves_fall}
 use Rattle.tree_names.proofs.count.+counting.Goals as goal
 
 pub count_leaf-count_leaf-requires : goal.count_leaf-count_leaf-requires
 count_leaf-count_leaf-requires t c =
     let less = present_below c.args.leaf.now c.in-Present.part c.in-Present.is in
-    (omega (arith, less, c.decreases), (c.requires.few, (c.requires.sized, (c.requires.expanded.0, present_expanded c.requires.expanded.0 c.args.leaf.now c.in-Present.part c.in-Present.is c.requires.expanded.1))))
+    (omega (arith, less, c.decreases), (c.requires.few, (c.requires.sized, ((c.requires.expanded.0, present_expanded c.requires.expanded.0 c.args.leaf.now c.in-Present.part c.in-Present.is c.requires.expanded.1), (c.requires.room.0, sums_present c.requires.room.0 c.args.leaf.now c.in-Present.part c.in-Present.is c.requires.room.1)))))
 
 pub count_leaf-count_leaves-requires : goal.count_leaf-count_leaves-requires
 count_leaf-count_leaves-requires t c =
     let less = node_below c.args.leaf.now c.in-Node.node c.in-Node.is in
-    (omega (arith, less, c.decreases), (c.requires.few, (c.requires.sized, (c.requires.expanded.0, node_expanded c.requires.expanded.0 c.args.leaf.now c.in-Node.node c.in-Node.is c.requires.expanded.1))))
+    (omega (arith, less, c.decreases), (c.requires.few, (c.requires.sized, ((c.requires.expanded.0, node_expanded c.requires.expanded.0 c.args.leaf.now c.in-Node.node c.in-Node.is c.requires.expanded.1), (c.requires.room.0, sums_node c.requires.room.0 c.args.leaf.now c.in-Node.node c.in-Node.is c.requires.room.1)))))
 
 pub count_leaf-count_nodes-requires : goal.count_leaf-count_nodes-requires
 count_leaf-count_nodes-requires t c =
     let less = nodes_below c.args.leaf.now c.in-Nodes.nodes c.in-Nodes.is in
-    (omega (arith, less, c.decreases), (c.requires.few, (c.requires.sized, (c.requires.expanded.0, nodes_expanded c.requires.expanded.0 c.args.leaf.now c.in-Nodes.nodes c.in-Nodes.is c.requires.expanded.1))))
+    (omega (arith, less, c.decreases), (c.requires.few, (c.requires.sized, ((c.requires.expanded.0, nodes_expanded c.requires.expanded.0 c.args.leaf.now c.in-Nodes.nodes c.in-Nodes.is c.requires.expanded.1), (c.requires.room.0, sums_nodes c.requires.room.0 c.args.leaf.now c.in-Nodes.nodes c.in-Nodes.is c.requires.room.1)))))
 
 pub count_leaves-count_leaf-requires : goal.count_leaves-count_leaf-requires
 count_leaves-count_leaf-requires t c =
     let less = leaf_below c.args.leaves.now c.loop-leaf.leaf-index c.leaf-item.result c.loop-leaf-test.true c.leaf-item.is in
-    (omega (arith, less, c.decreases), (c.requires.few, (c.loop-leaf.invariant.0, (c.requires.expanded.0, leaf_expanded_at c.requires.expanded.0 c.args.leaves.now c.loop-leaf.leaf-index c.leaf-item.result c.requires.expanded.1 c.loop-leaf-test.true c.leaf-item.is))))
+    let left = drop_more c.args.leaves.now c.loop-leaf.leaf-index _ c.loop-leaf-test.true ∙ ap (λ z. z ∷ drop (c.loop-leaf.leaf-index + 1) c.args.leaves.now) (sym c.leaf-item.is) in
+    (omega (arith, less, c.decreases), (c.requires.few, (c.loop-leaf.invariant.0, ((c.requires.expanded.0, leaf_expanded_at c.requires.expanded.0 c.args.leaves.now c.loop-leaf.leaf-index c.leaf-item.result c.requires.expanded.1 c.loop-leaf-test.true c.leaf-item.is),
+    (c.requires.room.0, sums_first c.requires.room.0 _ _ c.leaf-item.result left (c.loop-leaf.invariant.3 c.requires.room.0 c.requires.room.1))))))
 
 pub count_nodes-count_leaves-requires : goal.count_nodes-count_leaves-requires
 count_nodes-count_leaves-requires t c =
-    (leaves_fall c.args.nodes.now c.loop-node.node-index _ t c.decreases c.loop-node-test.true, (c.requires.few, (c.loop-node.invariant.0, (c.requires.expanded.0, node_expanded_at c.requires.expanded.0 c.args.nodes.now c.loop-node.node-index _ c.requires.expanded.1 c.loop-node-test.true))))
+    (leaves_fall c.args.nodes.now c.loop-node.node-index _ t c.decreases c.loop-node-test.true, (c.requires.few, (c.loop-node.invariant.0, ((c.requires.expanded.0, node_expanded_at c.requires.expanded.0 c.args.nodes.now c.loop-node.node-index _ c.requires.expanded.1 c.loop-node-test.true),
+    (c.requires.room.0, sums_first_node c.requires.room.0 _ _ _ (drop_more c.args.nodes.now c.loop-node.node-index _ c.loop-node-test.true) (c.loop-node.invariant.3 c.requires.room.0 c.requires.room.1))))))
 
 pub count_leaf-returns-in-Present-clause-counted : goal.count_leaf-returns-in-Present-clause-counted
 count_leaf-returns-in-Present-clause-counted t c = λ C. same_leaf _ _ _ _ _ _ (ap (leaf_of C) c.in-Present.is ∙ leaf_present C c.in-Present.part) (c.count_leaf.ensures.counted C)
@@ -56,6 +60,7 @@ count_leaves-loop-leaf-preserved t c =
       (c.in-Ok.ensures.counted []).sized,
       λ C. leaves_step C _ _ _ _ _ _ _ _ (c.loop-leaf.invariant.1 C) left (c.in-Ok.ensures.counted C),
       λ C. leaf_kept c.args.scopes.now (λ ms. all_found ms (listed C c.args.leaves.now)) _ _ C _ _ _ _ (c.loop-leaf.invariant.2 C) left (c.in-Ok.ensures.kept C),
+      λ C r. sums_then C _ _ c.leaf-item.result left (c.in-Ok.ensures.counted C) (c.loop-leaf.invariant.3 C r),
     )
 
 pub count_leaves-returns-clause-counted : goal.count_leaves-returns-clause-counted
@@ -70,6 +75,7 @@ count_nodes-loop-node-preserved t c =
       (c.in-Ok.ensures.counted []).sized,
       λ C. nodes_step C _ _ _ _ _ _ _ _ (c.loop-node.invariant.1 C) left (c.in-Ok.ensures.counted C),
       λ C. node_kept c.args.scopes.now (λ ms. nodes_found ms (nodes_listed C c.args.nodes.now)) _ _ C _ _ _ _ (c.loop-node.invariant.2 C) left (c.in-Ok.ensures.kept C),
+      λ C r. sums_then_node C _ _ _ left (c.in-Ok.ensures.counted C) (c.loop-node.invariant.3 C r),
     )
 
 pub count_nodes-returns-clause-counted : goal.count_nodes-returns-clause-counted
