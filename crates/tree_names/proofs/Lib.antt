@@ -14,3 +14,4 @@ pub mod Definitions
 pub mod ReadyParts
 pub mod Sizes
 pub mod Room
+pub mod Small

@@ -1,5 +1,5 @@
 -- Room for what is left, behind what was counted and read.
-use Rattle.std.proofs.Common.{◌≡◌, ℕ, zero, suc, ◌+◌, ◌-◌, ◌<◌, ◌≤◌, ◌^◌, refl, sym, ap, ◌∙◌, subst, Bool, List, [], ◌∷◌, ◌++◌, length, take, Option, Some, None, Bor, arith}
+use Rattle.std.proofs.Common.{◌≡◌, ℕ, zero, suc, ◌+◌, ◌-◌, ◌<◌, ◌≤◌, ◌^◌, refl, sym, ap, ◌∙◌, subst, true, List, [], ◌∷◌, ◌++◌, length, take, Option, Some, None, Bor, arith}
 use Rattle.std.specs.Prelude.{get_or}
 use Rattle.comp_model.specs.Core.{Text, Reach}
 use Rattle.comp_model.specs.CoreModules.{CoreModule}
@@ -56,6 +56,14 @@ step_fits s u i ts k old new h n e =
     let d : k ≡ steps (path_from (root_of i) (take k ts)) = steps_so_far i ts k (omega (arith, n)) in
     steps_left (counters_in old s) (counters_in new s) (length ts) k (omega (arith, a, b, d)) (omega (arith, n)) (h s)
 
+-- there are fewer than 2 ^ 32 export names
+pub few_steps : (n : ℕ) (counts : List ℕ) → CountersHaveRoom counts n → n < 2 ^ 32
+few_steps n counts h = let r = h CoreFunc in omega (arith, r)
+
+-- behind the path of the first k export names, for one more
+pub step_room : (os : List Open) (s : Space) (q : Index) (ts : List (Bor Text)) (k : ℕ) (old new : Reading) (i : ℕ) → CountersHaveRoom old.counters (length ts) → k < length ts → PathRead os s (path_from (root_of q) (take k ts)) old new i → CountersHaveRoom new.counters 1
+step_room os s q ts k old new i h n p t = let r : counters_in new.counters t < 2 ^ 32 - 1 = step_fits t s q ts k old.counters new.counters h n p.counts in omega (arith, r)
+
 -- a path with an export name has as many steps as names
 path_needs : (s : Space) (i : Index) (ts : List (Bor Text)) → 0 < length ts → most_needs_leaf (m.ref s (path_of i ts)) ≡ length ts
 path_needs s i [] h = absurd (omega (arith, h))
@@ -67,11 +75,26 @@ path_needs s i (t ∷ ts) h =
 pub path_fits : (counts : List ℕ) (s : Space) (i : Index) (ts : List (Bor Text)) → 0 < length ts → CountersHaveRoom counts (most_needs_leaf (m.ref s (path_of i ts))) → CountersHaveRoom counts (length ts)
 path_fits counts s i ts h r = subst (CountersHaveRoom counts) (path_needs s i ts h) r
 
+-- and is one reference
+path_refers : (s : Space) (i : Index) (ts : List (Bor Text)) → 0 < length ts → references_leaf (m.ref s (path_of i ts)) ≡ 1
+path_refers s i [] h = absurd (omega (arith, h))
+path_refers s i (t ∷ ts) h = refl
+
+pub path_room : (a b : Reading) (s : Space) (i : Index) (ts : List (Bor Text)) → 0 < length ts → RoomForLeaf a (m.ref s (path_of i ts)) → b.place ≡ a.place → b.place < 2 ^ 32 - 1
+path_room a b s i ts h r e =
+    let n : references_leaf (m.ref s (path_of i ts)) ≡ 1 = path_refers s i ts h in
+    let p = r.place in
+    omega (arith, n, p, e)
+
+pub core_room : (a : Reading) (r : Reach) (i : Index) → RoomForLeaf a (m.core_value (core_reference true r i)) → a.place < 2 ^ 32 - 1
+core_room a r (index.Num n s) h = let p = h.place in omega (arith, p)
+core_room a r (index.Id x) h = let p = h.place in omega (arith, p)
+
 -- ---- what was counted
 
 module _ {os : List Open} {a b : Sums} where
-  behind : (ls : m.Leaves) (n : ℕ) → LeavesCounted os a b ls → SumsHaveRoom a (most_needs ls + n) → SumsHaveRoom b n
-  behind ls n g h =
+  pub sums_behind : (ls : m.Leaves) (n : ℕ) → LeavesCounted os a b ls → SumsHaveRoom a (most_needs ls + n) → SumsHaveRoom b n
+  sums_behind ls n g h =
       let w = some-shown os in
       let s : Summed a b (past w.0 ls h.counters) (all_served w.0 ls h.counters) = g.summed w.0 h.counters w.1 h.shown in
       record {
@@ -100,23 +123,23 @@ module _ {os : List Open} {a b : Sums} where
             omega (arith, e, q, k, r);
       }
 
-less : {a : Sums} (n k : ℕ) → k ≤ n → SumsHaveRoom a n → SumsHaveRoom a k
-less n k p h = record { counters = h.counters; shown = h.shown; room = λ t. let r = h.room t in omega (arith, p, r) }
+pub sums_less : {a : Sums} (n k : ℕ) → k ≤ n → SumsHaveRoom a n → SumsHaveRoom a k
+sums_less n k p h = record { counters = h.counters; shown = h.shown; room = λ t. let r = h.room t in omega (arith, p, r) }
 
 -- for the first of those that are left, and behind it for the others
 pub sums_first : {a : Sums} (C : List CoreModule) (rest more : List Leaf) (y : Leaf) → rest ≡ y ∷ more → SumsHaveRoom a (most_needs (listed C rest)) → SumsHaveRoom a (most_needs_leaf (leaf_of C y))
 sums_first {a} C rest more y e h =
-    less (most_needs_leaf (leaf_of C y) + most_needs (listed C more)) (most_needs_leaf (leaf_of C y)) (omega arith) (subst (λ z. SumsHaveRoom a (most_needs (listed C z))) e h)
+    sums_less (most_needs_leaf (leaf_of C y) + most_needs (listed C more)) (most_needs_leaf (leaf_of C y)) (omega arith) (subst (λ z. SumsHaveRoom a (most_needs (listed C z))) e h)
 
 pub sums_then : {os : List Open} {a b : Sums} (C : List CoreModule) (rest more : List Leaf) (y : Leaf) → rest ≡ y ∷ more → LeafCounted os a b (leaf_of C y) → SumsHaveRoom a (most_needs (listed C rest)) → SumsHaveRoom b (most_needs (listed C more))
 sums_then {os} {a} {b} C rest more y e g h = behind_leaf (leaf_of C y) (most_needs (listed C more)) g (subst (λ z. SumsHaveRoom a (most_needs (listed C z))) e h)
 
 pub sums_first_node : {a : Sums} (C : List CoreModule) (rest more : List Node) (y : Node) → rest ≡ y ∷ more → SumsHaveRoom a (most_needs_nodes (nodes_listed C rest)) → SumsHaveRoom a (most_needs (listed C y.leaves.now))
 sums_first_node {a} C rest more y e h =
-    less (most_needs (listed C y.leaves.now) + most_needs_nodes (nodes_listed C more)) (most_needs (listed C y.leaves.now)) (omega arith) (subst (λ z. SumsHaveRoom a (most_needs_nodes (nodes_listed C z))) e h)
+    sums_less (most_needs (listed C y.leaves.now) + most_needs_nodes (nodes_listed C more)) (most_needs (listed C y.leaves.now)) (omega arith) (subst (λ z. SumsHaveRoom a (most_needs_nodes (nodes_listed C z))) e h)
 
 pub sums_then_node : {os : List Open} {a b : Sums} (C : List CoreModule) (rest more : List Node) (y : Node) → rest ≡ y ∷ more → LeavesCounted os a b (listed C y.leaves.now) → SumsHaveRoom a (most_needs_nodes (nodes_listed C rest)) → SumsHaveRoom b (most_needs_nodes (nodes_listed C more))
-sums_then_node {os} {a} {b} C rest more y e g h = behind (listed C y.leaves.now) (most_needs_nodes (nodes_listed C more)) g (subst (λ z. SumsHaveRoom a (most_needs_nodes (nodes_listed C z))) e h)
+sums_then_node {os} {a} {b} C rest more y e g h = sums_behind (listed C y.leaves.now) (most_needs_nodes (nodes_listed C more)) g (subst (λ z. SumsHaveRoom a (most_needs_nodes (nodes_listed C z))) e h)
 
 -- for what stands in a leaf
 pub sums_present : {a : Sums} (C : List CoreModule) (x : Leaf) (y : Bor Leaf) → x ≡ l.Present y → SumsHaveRoom a (most_needs_leaf (leaf_of C x)) → SumsHaveRoom a (most_needs_leaf (leaf_of C y.now))

@@ -23,3 +23,4 @@ pub mod DefsLeft
 pub mod AllPlain
 pub mod ScopeMade
 pub mod Whole
+pub mod Room

@@ -1,11 +1,14 @@
 //! The third pass, for one definition: it stands in the new list behind the definitions that it needs.
 
-ghost use Rattle.std.specs.Prelude.{◌≡◌, ◌<◌, ◌^◌, ℕ, [], false, List, length, map, Option, MatchResult, OnOk, IfErr};
+ghost use Rattle.std.specs.Prelude.{◌≡◌, ◌<◌, ◌^◌, ◌+◌, ℕ, [], false, List, length, map, Option, MatchResult, OnOk, IfErr};
 ghost use Rattle.comp_model.specs.CoreModules.{CoreModule};
 ghost use Rattle.comp_scopes.specs.Encoding.{Encoding};
 ghost use Rattle.comp_scopes.specs.Names.{first_of_two};
+ghost use Rattle.comp_model.specs.Spaces.{declares_row};
+ghost use Rattle.comp_scopes.specs.References.{references};
 ghost use Rattle.comp_scopes.specs.Rowed.{holds_scope};
 ghost use Rattle.comp_expanded.specs.IsExpanded.{LeavesExpanded};
+ghost use Rattle.comp_tables.specs.Bounds.{most_needs};
 ghost use Rattle.comp_tables.specs.Built.{missing, missing_roots};
 ghost use Rattle.comp_tree.specs.Lists.{listed};
 ghost use Rattle.open_scopes.specs.declared.scopes.Open.{Open as OpenScope};
@@ -13,6 +16,7 @@ ghost use Rattle.open_scopes.specs.Indexed.{OpenIndexed};
 ghost use Rattle.open_scopes.specs.Refusals.{no_memory};
 ghost use Rattle.tree_names.specs.AllFound.{all_found, FoundFirst, FoundTaken};
 ghost use Rattle.tree_names.specs.Counted.{Refused};
+ghost use Rattle.tree_names.specs.Room.{CountersHaveRoom};
 ghost use Rattle.tree_names.specs.Served.{all_served, ServedFirst};
 ghost use Rattle.tree_resolve.specs.Made.{own_names, number_in, AliasesBehind, DefBuilt};
 ghost use Rattle.tree_resolve.specs.Plain.{Plain};
@@ -53,8 +57,8 @@ fn push_aliases<'t, 'a>(
     Ok(())
 }
 
-/// A definition that stays as it is, behind a list; the counters behind it are the answer. Want of memory is `NoMemory` at 0, and so is a
-/// counter at 2^32 - 1.
+/// A definition that stays as it is, behind a list; the counters behind it are the answer. There are indices below 2^32 - 1 for its items.
+/// Want of memory is `NoMemory` at 0.
 fn push_plain<'t, 'a>(
     alloc: Global,
     def: &Def<'t, 'a>,
@@ -64,6 +68,7 @@ fn push_plain<'t, 'a>(
     requires sized { length counters.now ≡ 13 }
     requires plain { (C : List CoreModule) → Plain (listed C def.now.node.leaves.now) }
     requires written_out { (own_names def.now).exports ≡ [] }
+    requires room { (C : List CoreModule) × CountersHaveRoom counters.now (length (declares_row def.now.node.row (listed C def.now.node.leaves.now))) }
     ensures { (e : Encoding) (C : List CoreModule) (os : List OpenScope) (served : List (Option ℕ)) → MatchResult result (λ behind. DefBuilt e C os counters.now served def.now list.old.items list.new.items behind served) (λ x. x ≡ no_memory) }
 {
     match list.push(*def) {
@@ -111,6 +116,8 @@ fn build_resolved<'t, 'a, M: CoreRule>(
     requires written_out { (own_names def.now).exports ≡ [] }
     requires kept { FoundFirst scopes.now (λ ms. all_found ms (listed (map M.core_module cores.now) def.now.node.leaves.now)) denoted.old.left.now }
     requires served { ServedFirst scopes.now counters.now (λ ms. all_served ms (listed (map M.core_module cores.now) def.now.node.leaves.now)) denoted.old.served.now }
+    requires room { CountersHaveRoom counters.now (most_needs (listed (map M.core_module cores.now) def.now.node.leaves.now) + length (declares_row def.now.node.row (listed (map M.core_module cores.now) def.now.node.leaves.now))) }
+    requires numbered { references (listed (map M.core_module cores.now) def.now.node.leaves.now) < 2 ^ 32 }
     ensures built { MatchResult result (λ behind. DefBuilt M.encoding (map M.core_module cores.now) scopes.now counters.now denoted.old.served.now def.now list.old.items list.new.items behind denoted.new.served.now) (Refused scopes.now (λ ms. first_of_two (missing_roots ms (listed (map M.core_module cores.now) def.now.node.leaves.now)) (missing M.encoding ms (listed (map M.core_module cores.now) def.now.node.leaves.now)))) }
     ensures taken { OnOk result (FoundTaken scopes.now (λ ms. all_found ms (listed (map M.core_module cores.now) def.now.node.leaves.now)) denoted.old.left.now denoted.new.left.now) }
 {
@@ -153,7 +160,8 @@ fn build_resolved<'t, 'a, M: CoreRule>(
 ///
 /// `counters` number the items in front of it, and what its names denote is taken. The first root of a path that the innermost scope doesn't
 /// have is `Unknown`, at the name; else it is refused by the first of its references that can't be resolved, as
-/// `tree_names::resolve_definition` says. Otherwise want of memory is `NoMemory` at 0, and so are indices and numbers from 2^32 - 1 on.
+/// `tree_names::resolve_definition` says. Otherwise want of memory is `NoMemory` at 0. It has fewer than 2^32 references, and there are
+/// indices below 2^32 - 1 for all of its aliases and items.
 pub(crate) fn build_definition<'t, 'a, M: CoreRule>(
     alloc: Global,
     bump: &'t Bump,
@@ -172,6 +180,8 @@ pub(crate) fn build_definition<'t, 'a, M: CoreRule>(
     requires written_out { (own_names def.now).exports ≡ [] }
     requires kept { FoundFirst scopes.now (λ ms. all_found ms (listed (map M.core_module cores.now) def.now.node.leaves.now)) denoted.old.left.now }
     requires served { ServedFirst scopes.now counters.now (λ ms. all_served ms (listed (map M.core_module cores.now) def.now.node.leaves.now)) denoted.old.served.now }
+    requires room { CountersHaveRoom counters.now (most_needs (listed (map M.core_module cores.now) def.now.node.leaves.now) + length (declares_row def.now.node.row (listed (map M.core_module cores.now) def.now.node.leaves.now))) }
+    requires numbered { references (listed (map M.core_module cores.now) def.now.node.leaves.now) < 2 ^ 32 }
     ensures built { MatchResult result (λ behind. DefBuilt M.encoding (map M.core_module cores.now) scopes.now counters.now denoted.old.served.now def.now list.old.items list.new.items behind denoted.new.served.now) (Refused scopes.now (λ ms. first_of_two (missing_roots ms (listed (map M.core_module cores.now) def.now.node.leaves.now)) (missing M.encoding ms (listed (map M.core_module cores.now) def.now.node.leaves.now)))) }
     ensures taken { OnOk result (FoundTaken scopes.now (λ ms. all_found ms (listed (map M.core_module cores.now) def.now.node.leaves.now)) denoted.old.left.now denoted.new.left.now) }
 {

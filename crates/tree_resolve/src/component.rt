@@ -1,6 +1,6 @@
 //! The whole: an expanded scope, resolved.
 
-ghost use Rattle.std.specs.Prelude.{◌≡◌, [], List, map, OnOk, IfOk, IfErr, ◌⊎◌, Some, option_map};
+ghost use Rattle.std.specs.Prelude.{◌≡◌, ◌<◌, ◌^◌, ◌-◌, ◌*◌, [], List, map, OnOk, IfOk, IfErr, ◌⊎◌, Some, option_map};
 ghost use Rattle.comp_model.specs.CoreModules.{CoreModule};
 ghost use Rattle.comp_model.specs.Model.{Scope as ModelScope};
 ghost use Rattle.comp_scopes.specs.Form.{form, plan};
@@ -12,6 +12,7 @@ ghost use Rattle.comp_expanded.specs.WrittenMarks.{written_marks};
 ghost use Rattle.comp_tree.specs.Marks.{marks_of};
 ghost use Rattle.comp_tree.specs.Model.{scope_of};
 ghost use Rattle.open_scopes.specs.Refusals.{refusal_of, no_memory};
+ghost use Rattle.tree_names.specs.Size.{size_of_scope};
 ghost use Rattle.tree_resolve.specs.Planned.{planned_of};
 ghost use Rattle.tree_resolve.specs.Source.{IsSource};
 
@@ -28,7 +29,7 @@ use wast_parser::Error;
 /// name of its paths. `cores` are the core modules that the tree names by number.
 ///
 /// It needs the expansion of a component of the text, with its marks. A definition of that component that holds a scope holds nothing else,
-/// as in the table of rows. The scope that comes of it is made in the arena and shares what was left as it was; it stands for that component's form,
+/// as in the table of rows. It is not too large for indices of 32 bits, of items and aliases alike: its size is below 2^31 - 1. The scope that comes of it is made in the arena and shares what was left as it was; it stands for that component's form,
 /// and its marks, with that of the name section behind those of a component with a name, are the plan. A component that is resolved already
 /// stays what it stands for.
 ///
@@ -42,13 +43,14 @@ use wast_parser::Error;
 ///   `OuterCount`, where the item is named and no scope stands that many outward; `Duplicate` at the second of two cases of one variant
 ///   with one id; the first rule that a core module breaks; of a scope, all that is asked of its own definitions.
 ///
-/// Otherwise want of memory is `NoMemory` at 0, and so are indices and numbers from 2^32 - 1 on.
+/// Otherwise want of memory is `NoMemory` at 0: it comes of a refused allocation alone.
 pub fn resolve<'t, 'a, M: CoreRule>(
     alloc: Global,
     bump: &'t Bump,
     cores: &[M],
     scope: &Scope<'t, 'a>,
 ) -> Result<Scope<'t, 'a>, Error>
+    requires small { 2 * size_of_scope (scope_of (map M.core_module cores.now) scope.now) < 2 ^ 32 - 2 }
     requires source { (s : ModelScope) × IsSource s (scope_of (map M.core_module cores.now) scope.now) (marks_of (map M.core_module cores.now) scope.now) }
     ensures rule { OnOk result ((s : ModelScope) → IsSource s (scope_of (map M.core_module cores.now) scope.now) (marks_of (map M.core_module cores.now) scope.now) → ScopeRule M.encoding [] s) }
     ensures form { IfOk result (λ new. (s : ModelScope) → IsSource s (scope_of (map M.core_module cores.now) scope.now) (marks_of (map M.core_module cores.now) scope.now) → binary_of M.encoding (scope_of (map M.core_module cores.now) new) ≡ form M.encoding [] s) }

@@ -1,6 +1,6 @@
 //! A scope is opened: its ids registered, its indices counted.
 
-ghost use Rattle.std.specs.Prelude.{◌≡◌, ◌<◌, ◌^◌, ◌-◌, ◌++◌, ◌∷◌, [], List, length, OnOk, IfOk, IfErr, MatchResult};
+ghost use Rattle.std.specs.Prelude.{◌≡◌, ◌<◌, ◌^◌, ◌-◌, ◌*◌, ◌++◌, ◌∷◌, [], List, length, OnOk, IfOk, IfErr, MatchResult};
 ghost use Rattle.comp_model.specs.CoreModules.{CoreModule};
 ghost use Rattle.comp_model.specs.Model.{defs_of};
 ghost use Rattle.comp_expanded.specs.IsExpanded.{IsExpanded};
@@ -10,6 +10,7 @@ ghost use Rattle.tree_names.specs.AllFound.{defs_found, FoundAll};
 ghost use Rattle.comp_tables.specs.Tables.{no_counts};
 ghost use Rattle.tree_names.specs.Counted.{Refused};
 ghost use Rattle.tree_names.specs.Served.{defs_served};
+ghost use Rattle.tree_names.specs.Size.{size_of_scope};
 ghost use Rattle.tree_resolve.specs.Tabled.{ServedAll};
 ghost use Rattle.tree_resolve.specs.Entered.{Entered, unmet_opening};
 
@@ -37,12 +38,12 @@ fn fill<'a>(scopes: &mut Vec<Open<'a>>, half: Open<'a>, table: Vec<u32>) -> Resu
     }
 }
 
-/// Opens an expanded scope, of whatever kind and label: it becomes the innermost of the open ones. The first two passes go over its list,
+/// Opens an expanded scope, of whatever kind and label: it becomes the innermost of the open ones. It is not too large for indices of 32 bits. The first two passes go over its list,
 /// and what is answered is what the names in its definitions denote, in the order in which they stand.
 ///
 /// The first id that is borne twice is `Duplicate`, at the second; then the first name that leads out to an item of which there is no outer
 /// alias is `OuterKind`, at the name, and a path to a core type or a core instance `CoreExportKind`, at its root; otherwise want of memory
-/// is `NoMemory` at 0, and so is an index from 2^32 - 1 on. After a refusal the open scopes can only be dropped.
+/// is `NoMemory` at 0. After a refusal the open scopes can only be dropped.
 pub(crate) fn open<'a>(
     alloc: Global,
     scopes: &mut Vec<Open<'a>>,
@@ -50,13 +51,11 @@ pub(crate) fn open<'a>(
 ) -> Result<Kept, Error>
     requires few { length scopes.old.items < 2 ^ 32 - 1 }
     requires expanded { (C : List CoreModule) × IsExpanded (scope_of C scope.now) }
+    requires small { (C : List CoreModule) × (2 * size_of_scope (scope_of C scope.now) < 2 ^ 32) }
     ensures entered { (C : List CoreModule) → MatchResult result (λ kept. Entered C scopes.old.items scopes.new.items scope.now) (Refused scopes.old.items (unmet_opening (scope_of C scope.now))) }
     ensures kept { (C : List CoreModule) → IfOk result (λ kept. FoundAll scopes.new.items (λ ms. defs_found ms (defs_of (scope_of C scope.now))) kept.found.items) }
     ensures served { (C : List CoreModule) → IfOk result (λ kept. ServedAll scopes.new.items (λ ms. defs_served ms (defs_of (scope_of C scope.now)) no_counts) kept.served.items) }
 {
-    if scope.defs.len() >= u32::MAX as usize {
-        return Err(no_memory());
-    }
     let names = match register_defs(alloc, scope.defs) {
         Ok(names) => names,
         Err(refused) => return Err(refused),

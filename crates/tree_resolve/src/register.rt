@@ -4,6 +4,7 @@ ghost use Rattle.std.specs.Prelude.{◌≡◌, ◌<◌, ◌^◌, ◌++◌, ◌�
 ghost use Rattle.comp_model.specs.CoreModules.{CoreModule};
 ghost use Rattle.comp_model.specs.ItemNames.{first_or_none};
 ghost use Rattle.comp_model.specs.Spaces.{Declaration, parts, declarations_from, declares_row};
+ghost use Rattle.comp_tables.specs.Bounds.{most_declared};
 ghost use Rattle.comp_tables.specs.Tables.{nothing_registered, all_registered, first_taken};
 ghost use Rattle.comp_tree.specs.Lists.{listed, defs_listed};
 ghost use Rattle.comp_tree.specs.Model.{id_of};
@@ -47,18 +48,16 @@ fn register_item<'a>(
     }
 }
 
-/// Registers the items of a definition, one for each of its spaces.
+/// Registers the items of a definition, one for each of its spaces, of which there are fewer than 2^32.
 fn register_parts<'a>(
     registry: &mut Registry<'a>,
     definition: u32,
     ids: &[Option<Id<'a>>],
     spaces: &[Space],
 ) -> Result<(), Error>
+    requires few { length spaces.now < 2 ^ 32 }
     ensures { (all more : List Declaration) → RegisteredUpTo registry.old all (parts definition 0 (map (option_map id_of) ids.now) spaces.now ++ more) → MatchResult result (λ done. RegisteredUpTo registry.new all more) (TakenFirst all) }
 {
-    if spaces.len() > u32::MAX as usize {
-        return Err(no_memory());
-    }
     for part in 0..spaces.len() {
         let item = Item {
             definition,
@@ -79,6 +78,7 @@ fn register_listed<'a>(
     definition: u32,
     def: &Def<'_, 'a>,
 ) -> Result<(), Error>
+    requires few { (C : List CoreModule) × (length (declares_row def.now.node.row (listed C def.now.node.leaves.now)) < 2 ^ 32) }
     ensures { (C : List CoreModule) (all more : List Declaration) → RegisteredUpTo registry.old all (parts definition 0 (map (option_map id_of) def.now.names.now.ids.now) (declares_row def.now.node.row (listed C def.now.node.leaves.now)) ++ more) → MatchResult result (λ done. RegisteredUpTo registry.new all more) (TakenFirst all) }
 {
     let spaces = match declared_spaces(alloc, def.node.row, def.node.leaves) {
@@ -95,6 +95,7 @@ fn register_def<'a>(
     definition: u32,
     def: &Def<'_, 'a>,
 ) -> Result<(), Error>
+    requires few { (C : List CoreModule) × (length (declares_row def.now.node.row (listed C def.now.node.leaves.now)) < 2 ^ 32) }
     ensures { (C : List CoreModule) (all more : List Declaration) → RegisteredUpTo registry.old all (parts definition 0 (map (option_map id_of) def.now.names.now.ids.now) (declares_row def.now.node.row (listed C def.now.node.leaves.now)) ++ more) → MatchResult result (λ done. RegisteredUpTo registry.new all more) (TakenFirst all) }
 {
     match sole_space(def.node.row, def.node.leaves) {
@@ -105,9 +106,11 @@ fn register_def<'a>(
 
 /// First pass: registers the ids of the items of a list.
 ///
-/// The first id that an earlier item of its space bears is `Duplicate`, at the id; otherwise want of memory is `NoMemory` at 0.
+/// The first id that an earlier item of its space bears is `Duplicate`, at the id; otherwise want of memory is `NoMemory` at 0. Definitions
+/// and items are fewer than 2^32.
 pub(crate) fn register_defs<'a>(alloc: Global, defs: &[Def<'_, 'a>]) -> Result<Registry<'a>, Error>
     requires few { length defs.now < 2 ^ 32 }
+    requires small { (C : List CoreModule) × (most_declared (defs_listed C defs.now) < 2 ^ 32) }
     ensures { (C : List CoreModule) → MatchResult result (λ r. Registers r (all_registered nothing_registered (declarations_from 0 (defs_listed C defs.now))) × (first_taken nothing_registered (declarations_from 0 (defs_listed C defs.now)) ≡ None)) (TakenFirst (declarations_from 0 (defs_listed C defs.now))) }
 {
     let mut registry = Registry::new(alloc);

@@ -1,9 +1,11 @@
 //! A scope among open ones, resolved with the scopes in it.
 
-ghost use Rattle.std.specs.Prelude.{◌≡◌, ◌<◌, ◌^◌, [], length, map, MatchResult, OnOk, IfErr};
+ghost use Rattle.std.specs.Prelude.{◌≡◌, ◌<◌, ◌^◌, ◌+◌, ◌-◌, ◌*◌, [], length, map, MatchResult, OnOk, IfErr};
 ghost use Rattle.comp_scopes.specs.Names.{first_of_two};
+ghost use Rattle.comp_model.specs.Spaces.{declares_row};
 ghost use Rattle.comp_scopes.specs.Rowed.{Rowed, DefsRowed, LeavesRowed};
 ghost use Rattle.comp_expanded.specs.IsExpanded.{IsExpanded, DefsExpanded, LeavesExpanded};
+ghost use Rattle.comp_tables.specs.Bounds.{most_needs};
 ghost use Rattle.comp_tables.specs.Built.{missing, missing_roots, missing_defs, missing_scope};
 ghost use Rattle.comp_tables.specs.Tables.{no_counts};
 ghost use Rattle.comp_tree.specs.Lists.{listed, defs_listed};
@@ -12,6 +14,8 @@ ghost use Rattle.open_scopes.specs.Indexed.{OpenIndexed};
 ghost use Rattle.open_scopes.specs.Refusals.{no_memory};
 ghost use Rattle.tree_names.specs.AllFound.{all_found, defs_found, FoundAll, FoundFirst, FoundTaken};
 ghost use Rattle.tree_names.specs.Counted.{Refused};
+ghost use Rattle.tree_names.specs.Room.{CountersHaveRoom};
+ghost use Rattle.tree_names.specs.Size.{size_of_leaves, size_of_defs, size_of_scope};
 ghost use Rattle.tree_resolve.specs.Alone.{Sole, ScopesAlone, DefsAlone, LeavesAlone};
 ghost use Rattle.tree_names.specs.Served.{all_served, defs_served, ServedFirst};
 ghost use Rattle.tree_resolve.specs.Made.{own_names, DefBuilt};
@@ -87,6 +91,8 @@ fn resolve_def<'t, 'a, M: CoreRule>(
     requires written_out { (own_names def.now).exports ≡ [] }
     requires kept { FoundFirst scopes.old.items (λ ms. all_found ms (listed (map M.core_module cores.now) def.now.node.leaves.now)) denoted.old.left.now }
     requires served { ServedFirst scopes.old.items counters.now (λ ms. all_served ms (listed (map M.core_module cores.now) def.now.node.leaves.now)) denoted.old.served.now }
+    requires small { length scopes.old.items + 2 * size_of_leaves (listed (map M.core_module cores.now) def.now.node.leaves.now) < 2 ^ 32 - 2 }
+    requires room { CountersHaveRoom counters.now (most_needs (listed (map M.core_module cores.now) def.now.node.leaves.now) + length (declares_row def.now.node.row (listed (map M.core_module cores.now) def.now.node.leaves.now))) }
     ensures resolves { MatchResult result (λ behind. DefBuilt M.encoding (map M.core_module cores.now) scopes.old.items counters.now denoted.old.served.now def.now list.old.items list.new.items behind denoted.new.served.now) (Refused scopes.old.items (λ ms. first_of_two (missing_roots ms (listed (map M.core_module cores.now) def.now.node.leaves.now)) (missing M.encoding ms (listed (map M.core_module cores.now) def.now.node.leaves.now)))) }
     ensures taken { OnOk result (FoundTaken scopes.old.items (λ ms. all_found ms (listed (map M.core_module cores.now) def.now.node.leaves.now)) denoted.old.left.now denoted.new.left.now) }
     ensures scopes { OnOk result (scopes.new.items ≡ scopes.old.items) }
@@ -109,8 +115,8 @@ fn resolve_def<'t, 'a, M: CoreRule>(
 /// Third pass: the definitions of a scope, whose own is the innermost of the open ones, one after the other, each behind what it needs, by
 /// what was found for the names in them. Definitions that all stay as they are are passed on.
 ///
-/// The first demand that isn't met is the refusal; otherwise want of memory is `NoMemory` at 0, and so are indices and numbers from
-/// 2^32 - 1 on. After a refusal the open scopes can only be dropped.
+/// The first demand that isn't met is the refusal; otherwise want of memory is `NoMemory` at 0. After a refusal the open scopes can only be
+/// dropped.
 #[cycle(nesting)]
 fn resolve_defs<'t, 'a, M: CoreRule>(
     alloc: Global,
@@ -127,6 +133,7 @@ fn resolve_defs<'t, 'a, M: CoreRule>(
     requires rowed { DefsRowed (defs_listed (map M.core_module cores.now) defs.now) }
     requires kept { FoundAll scopes.old.items (λ ms. defs_found ms (defs_listed (map M.core_module cores.now) defs.now)) kept.now.found.items }
     requires served { ServedAll scopes.old.items (λ ms. defs_served ms (defs_listed (map M.core_module cores.now) defs.now) no_counts) kept.now.served.items }
+    requires small { length scopes.old.items + 2 * size_of_defs (defs_listed (map M.core_module cores.now) defs.now) < 2 ^ 32 - 2 }
     ensures resolves { MatchResult result (λ new. DefsResolvedTo M.encoding (map M.core_module cores.now) scopes.old.items defs.now new.now) (Refused scopes.old.items (λ ms. missing_defs M.encoding ms (defs_listed (map M.core_module cores.now) defs.now))) }
     ensures scopes { OnOk result (scopes.new.items ≡ scopes.old.items) }
 {
@@ -169,8 +176,10 @@ fn resolve_defs<'t, 'a, M: CoreRule>(
 /// It is refused by the first demand that it doesn't meet, at its offset: an id that is borne twice before all others (`Duplicate`, at the
 /// second); then, in the order of the list, a name that leads out to an item of which there is no outer alias (`OuterKind`) or a path to a
 /// core type or a core instance (`CoreExportKind`); then, definition by definition, the root of a path that the scope doesn't have, and
-/// what `tree_names::resolve_definition` refuses, or what is asked of a scope in it. Otherwise want of memory is `NoMemory` at 0, and so
-/// are indices and numbers from 2^32 - 1 on. After a refusal the open scopes can only be dropped.
+/// what `tree_names::resolve_definition` refuses, or what is asked of a scope in it. Otherwise want of memory is `NoMemory` at 0. After a
+/// refusal the open scopes can only be dropped.
+///
+/// With those around it, the scope is not too large for indices of 32 bits.
 #[cycle(nesting)]
 pub(crate) fn resolve_scope<'t, 'a, M: CoreRule>(
     alloc: Global,
@@ -183,12 +192,10 @@ pub(crate) fn resolve_scope<'t, 'a, M: CoreRule>(
     requires expanded { IsExpanded (scope_of (map M.core_module cores.now) scope.now) }
     requires alone { ScopesAlone (scope_of (map M.core_module cores.now) scope.now) }
     requires rowed { Rowed (scope_of (map M.core_module cores.now) scope.now) }
+    requires small { length scopes.old.items + 2 * size_of_scope (scope_of (map M.core_module cores.now) scope.now) < 2 ^ 32 - 2 }
     ensures resolves { MatchResult result (λ new. ScopeResolved M.encoding (map M.core_module cores.now) scopes.old.items scope.now new) (Refused scopes.old.items (λ ms. missing_scope M.encoding ms (scope_of (map M.core_module cores.now) scope.now))) }
     ensures scopes { OnOk result (scopes.new.items ≡ scopes.old.items) }
 {
-    if scopes.len() >= u32::MAX as usize - 1 {
-        return Err(no_memory());
-    }
     let kept = match open(alloc, scopes, scope) {
         Ok(kept) => kept,
         Err(refused) => return Err(refused),

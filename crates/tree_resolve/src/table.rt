@@ -4,12 +4,14 @@ ghost use Rattle.std.specs.Prelude.{◌≡◌, ◌<◌, ◌^◌, ◌+◌, List, 
 ghost use Rattle.comp_model.specs.CoreModules.{CoreModule};
 ghost use Rattle.comp_model.specs.Spaces.{declares_row};
 ghost use Rattle.comp_expanded.specs.IsExpanded.{LeavesExpanded, DefsExpanded};
+ghost use Rattle.comp_tables.specs.Bounds.{most_needs, most_declared};
 ghost use Rattle.comp_tables.specs.Tables.{first_index, unmet_kinds, unmet_kinds_defs};
 ghost use Rattle.comp_tables.specs.Walks.{all_more};
 ghost use Rattle.comp_tree.specs.Lists.{listed, defs_listed};
 ghost use Rattle.open_scopes.specs.Refusals.{no_memory};
 ghost use Rattle.tree_names.specs.AllFound.{all_found, defs_found, FoundAll, FoundBehind};
 ghost use Rattle.tree_names.specs.Counted.{Refused};
+ghost use Rattle.tree_names.specs.Room.{CountersHaveRoom, SumsHaveRoom};
 ghost use Rattle.tree_resolve.specs.Tabled.{bare, Tabled, DefCounted, ItemsEntered};
 
 use crate::sole::sole_space;
@@ -20,28 +22,25 @@ use std::alloc::Global;
 use tree_names::{Sums, count_leaves, no_memory};
 use wast_parser::Error;
 
-/// The counters behind items in these spaces. A counter at 2^32 - 1 is `NoMemory` at 0.
-pub(crate) fn advance_all(counters: &mut Counters, spaces: &[Space]) -> Result<(), Error>
-    ensures advanced { OnOk result (counters.new ≡ all_more counters.old spaces.now) }
-    ensures refused { IfErr result (λ e. e ≡ no_memory) }
+/// The counters behind items in these spaces, for which there are indices below 2^32 - 1.
+pub(crate) fn advance_all(counters: &mut Counters, spaces: &[Space])
+    requires room { CountersHaveRoom counters.old (length spaces.now) }
+    ensures advanced { counters.new ≡ all_more counters.old spaces.now }
 {
     for space in spaces {
-        if counters.of(*space) == u32::MAX {
-            return Err(no_memory());
-        }
         counters.advance(*space);
     }
-    Ok(())
 }
 
-/// The counters behind the items of a definition, by its row and its leaves, where they stand in a list. Want of memory is `NoMemory` at
-/// 0, and so is a counter at 2^32 - 1.
+/// The counters behind the items of a definition, by its row and its leaves, where they stand in a list. There are indices below 2^32 - 1
+/// for them. Want of memory is `NoMemory` at 0.
 fn advance_listed(
     alloc: Global,
     counters: &mut Counters,
     row: Row,
     leaves: &[Leaf<'_, '_>],
 ) -> Result<(), Error>
+    requires room { (C : List CoreModule) × CountersHaveRoom counters.old (length (declares_row row (listed C leaves.now))) }
     ensures advanced { OnOk result ((C : List CoreModule) → counters.new ≡ all_more counters.old (declares_row row (listed C leaves.now))) }
     ensures refused { IfErr result (λ e. e ≡ no_memory) }
 {
@@ -49,35 +48,38 @@ fn advance_listed(
         Ok(spaces) => spaces,
         Err(_) => return Err(no_memory()),
     };
-    match advance_all(counters, &spaces) {
-        Ok(()) => Ok(()),
-        Err(refused) => Err(refused),
-    }
+    advance_all(counters, &spaces);
+    Ok(())
 }
 
-/// The counters behind the items of a definition, by its row and its leaves. Most declare one item, whose space takes no list.
-/// Want of memory is `NoMemory` at 0, and so is a counter at 2^32 - 1.
+/// The counters behind the items of a definition, by its row and its leaves. There are indices below 2^32 - 1 for them. Most declare one
+/// item, whose space takes no list. Want of memory is `NoMemory` at 0.
 pub(crate) fn advance_declared(
     alloc: Global,
     counters: &mut Counters,
     row: Row,
     leaves: &[Leaf<'_, '_>],
 ) -> Result<(), Error>
+    requires room { (C : List CoreModule) × CountersHaveRoom counters.old (length (declares_row row (listed C leaves.now))) }
     ensures advanced { OnOk result ((C : List CoreModule) → counters.new ≡ all_more counters.old (declares_row row (listed C leaves.now))) }
     ensures refused { IfErr result (λ e. e ≡ no_memory) }
 {
     match sole_space(row, leaves) {
-        Some(space) => advance_all(counters, &[space]),
+        Some(space) => {
+            advance_all(counters, &[space]);
+            Ok(())
+        }
         None => advance_listed(alloc, counters, row, leaves),
     }
 }
 
-/// The counters behind a definition that needs nothing. Want of memory is `NoMemory` at 0, and so is a counter at 2^32 - 1.
+/// The counters behind a definition that needs nothing, for whose items there are indices below 2^32 - 1. Want of memory is `NoMemory` at 0.
 pub(crate) fn counters_behind(
     alloc: Global,
     def: &Def<'_, '_>,
     counters: &Counters,
 ) -> Result<Counters, Error>
+    requires room { (C : List CoreModule) × CountersHaveRoom counters.now (length (declares_row def.now.node.row (listed C def.now.node.leaves.now))) }
     ensures behind { IfOk result (λ behind. (C : List CoreModule) → behind ≡ all_more counters.now (declares_row def.now.node.row (listed C def.now.node.leaves.now))) }
     ensures refused { IfErr result (λ e. e ≡ no_memory) }
 {
@@ -99,37 +101,20 @@ fn first_of(counters: &Counters, spaces: &[Space]) -> u32
     0
 }
 
-/// The index of the first of items in these spaces, behind which there are numbers below 2^32 for all of them; else it is `NoMemory` at 0.
-fn place_of(counters: &Counters, spaces: &[Space]) -> Result<u32, Error>
-    ensures first { IfOk result (λ i. i ≡ first_index spaces.now (bare counters.now)) }
-    ensures small { IfOk result (λ i. i + length spaces.now < 2 ^ 32) }
-    ensures refused { IfErr result (λ e. e ≡ no_memory) }
-{
-    let first = first_of(counters, spaces);
-    if spaces.len() > (u32::MAX - first) as usize {
-        return Err(no_memory());
-    }
-    Ok(first)
-}
-
-/// Passes items in these spaces: the index of the first goes behind the table. Want of memory is `NoMemory` at 0, and so is an index from
-/// 2^32 - 1 on.
+/// Passes items in these spaces, for which there are indices below 2^32 - 1: the index of the first goes behind the table. Want of memory
+/// is `NoMemory` at 0.
 fn enter_items(counters: &mut Counters, spaces: &[Space], table: &mut Vec<u32>) -> Result<(), Error>
+    requires room { CountersHaveRoom counters.old (length spaces.now) }
     ensures entered { OnOk result (ItemsEntered counters.old spaces.now table.old.items table.new.items counters.new) }
     ensures refused { IfErr result (λ e. e ≡ no_memory) }
 {
-    let first = match place_of(counters, spaces) {
-        Ok(first) => first,
-        Err(refused) => return Err(refused),
-    };
+    let first = first_of(counters, spaces);
     match table.push(first) {
         Ok(()) => {}
         Err(_) => return Err(no_memory()),
     }
-    match advance_all(counters, spaces) {
-        Ok(()) => Ok(()),
-        Err(refused) => Err(refused),
-    }
+    advance_all(counters, spaces);
+    Ok(())
 }
 
 /// Passes the items of a definition, by its row and its leaves, where they stand in a list.
@@ -140,6 +125,7 @@ fn enter_listed(
     leaves: &[Leaf<'_, '_>],
     table: &mut Vec<u32>,
 ) -> Result<(), Error>
+    requires room { (C : List CoreModule) × CountersHaveRoom counters.old (length (declares_row row (listed C leaves.now))) }
     ensures entered { (C : List CoreModule) → OnOk result (ItemsEntered counters.old (declares_row row (listed C leaves.now)) table.old.items table.new.items counters.new) }
     ensures refused { IfErr result (λ e. e ≡ no_memory) }
 {
@@ -153,8 +139,8 @@ fn enter_listed(
     }
 }
 
-/// Passes the items of a definition, by its row and its leaves. Most declare one item, whose space takes no list. Want of memory
-/// is `NoMemory` at 0, and so is an index from 2^32 - 1 on.
+/// Passes the items of a definition, by its row and its leaves, for which there are indices below 2^32 - 1. Most declare one item, whose
+/// space takes no list. Want of memory is `NoMemory` at 0.
 fn enter_declared(
     alloc: Global,
     counters: &mut Counters,
@@ -162,6 +148,7 @@ fn enter_declared(
     leaves: &[Leaf<'_, '_>],
     table: &mut Vec<u32>,
 ) -> Result<(), Error>
+    requires room { (C : List CoreModule) × CountersHaveRoom counters.old (length (declares_row row (listed C leaves.now))) }
     ensures entered { (C : List CoreModule) → OnOk result (ItemsEntered counters.old (declares_row row (listed C leaves.now)) table.old.items table.new.items counters.new) }
     ensures refused { IfErr result (λ e. e ≡ no_memory) }
 {
@@ -171,8 +158,8 @@ fn enter_declared(
     }
 }
 
-/// Passes a definition: the index of its first item goes behind the table, what its names denote behind what was found, and what serves its
-/// names that lead out behind what serves others.
+/// Passes a definition, for all of whose aliases and items there are indices below 2^32 - 1: the index of its first item goes behind the
+/// table, what its names denote behind what was found, and what serves its names that lead out behind what serves others.
 fn count_def<'a>(
     alloc: Global,
     scopes: &[Open<'a>],
@@ -184,6 +171,7 @@ fn count_def<'a>(
     requires few { length scopes.now < 2 ^ 32 }
     requires sized { length sums.old.counters ≡ 13 }
     requires expanded { (C : List CoreModule) × LeavesExpanded (listed C def.now.node.leaves.now) }
+    requires room { (C : List CoreModule) × SumsHaveRoom sums.old (most_needs (listed C def.now.node.leaves.now) + length (declares_row def.now.node.row (listed C def.now.node.leaves.now))) }
     ensures counted { (C : List CoreModule) → MatchResult result (λ done. DefCounted C scopes.now sums.old sums.new table.old.items table.new.items def.now) (Refused scopes.now (λ ms. unmet_kinds ms (listed C def.now.node.leaves.now))) }
     ensures kept { (C : List CoreModule) → OnOk result (FoundBehind scopes.now (λ ms. all_found ms (listed C def.now.node.leaves.now)) found.old.items found.new.items) }
 {
@@ -222,10 +210,11 @@ pub(crate) struct Counted {
 }
 
 /// Second pass: the index of the first item that each definition of an expanded list declares, with the aliases that will stand before it counted,
-/// in the innermost of open scopes, whose own table is empty so far; and what its names denote. No name is looked up in another pass.
+/// in the innermost of open scopes, whose own table is empty so far; and what its names denote. No name is looked up in another pass. Items
+/// and aliases are fewer than 2^32.
 ///
 /// The first name that leads out to an item of which there is no outer alias is `OuterKind`, at the name, and a path to a core type or a
-/// core instance `CoreExportKind`, at its root; otherwise want of memory is `NoMemory` at 0, and so is an index from 2^32 - 1 on.
+/// core instance `CoreExportKind`, at its root; otherwise want of memory is `NoMemory` at 0.
 pub(crate) fn count_defs<'a>(
     alloc: Global,
     scopes: &[Open<'a>],
@@ -233,6 +222,7 @@ pub(crate) fn count_defs<'a>(
 ) -> Result<Counted, Error>
     requires few { length scopes.now < 2 ^ 32 }
     requires expanded { (C : List CoreModule) × DefsExpanded (defs_listed C defs.now) }
+    requires small { (C : List CoreModule) × (most_declared (defs_listed C defs.now) < 2 ^ 32) }
     ensures counted { (C : List CoreModule) → MatchResult result (λ counted. Tabled C scopes.now counted.table.items counted.kept.served.items defs.now) (Refused scopes.now (λ ms. unmet_kinds_defs ms (defs_listed C defs.now))) }
     ensures kept { (C : List CoreModule) → IfOk result (λ counted. FoundAll scopes.now (λ ms. defs_found ms (defs_listed C defs.now)) counted.kept.found.items) }
 {

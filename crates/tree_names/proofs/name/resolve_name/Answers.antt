@@ -20,10 +20,3 @@ returns-in-Ok c =
     (next_taken c.args.scopes.now (λ ms. name_found ms c.args.space (reach_of c.args.reach) (id_of c.args.id)) c.next.result c.args.reading.now.denotations.left.now c.next.new.self.left.now c.next.ensures.next c.requires.kept)
     c.next.ensures.served c.if-leads_out.ensures _ _ c.in-Ok.ensures.done
 
-pub returns-in-Ok-refer : goal.returns-in-Ok-refer
-returns-in-Ok-refer c =
-    own_read c.args.scopes.now c.args.space (reach_of c.args.reach) (id_of c.args.id) c.args.reading.now c.in-Some.found _ c.next.new.self
-    (λ ms w. sym c.in-Some.is ∙ next_is c.args.scopes.now (λ ms. name_found ms c.args.space (reach_of c.args.reach) (id_of c.args.id)) c.next.result c.args.reading.now.denotations.left.now c.next.new.self.left.now c.next.ensures.next c.requires.kept ms w)
-    c.index_of-index.ensures.index
-    (next_taken c.args.scopes.now (λ ms. name_found ms c.args.space (reach_of c.args.reach) (id_of c.args.id)) c.next.result c.args.reading.now.denotations.left.now c.next.new.self.left.now c.next.ensures.next c.requires.kept)
-    c.next.ensures.served c.if-leads_out.ensures _ c.requires.sized c.in-Ok-refer.ensures.place

@@ -6,6 +6,7 @@ use Rattle.tree_names.specs.declared.reading.Reading.{Reading}
 use Rattle.tree_names.specs.AllFound.{root_found, FoundTaken}
 use Rattle.tree_names.specs.Read.{PathRead}
 use Rattle.tree_names.proofs.Names.{steps_inner, steps_last, from_start}
+use Rattle.tree_names.proofs.Room.{few_steps, step_room}
 use Rattle.tree_names.proofs.name.resolve_steps.Goals as goal
 
 pub loop-step-preserved : goal.loop-step-preserved
@@ -27,3 +28,15 @@ returns-clause-path c =
 
 pub returns-clause-served : goal.returns-clause-served
 returns-clause-served c = ap (λ (z : Denotations). z.served) (c.in_ok-end.ensures.done.denotations ∙ c.loop-step.invariant.1) ∙ c.resolve_root-index.ensures.served
+
+pub overflow_cast-step : goal.overflow_cast-step
+overflow_cast-step c = let few = few_steps (length c.args.exports.now) c.args.reading.now.counters c.requires.room in record { fits = omega (arith, few, c.loop-step-test.true) }
+
+pub overflow_cast-last : goal.overflow_cast-last
+overflow_cast-last c = let few = few_steps (length c.args.exports.now) c.args.reading.now.counters c.requires.room in record { fits = omega (arith, few) }
+
+pub resolve_step-requires-clause-room : goal.resolve_step-requires-clause-room
+resolve_step-requires-clause-room c = step_room _ _ _ c.args.exports.now c.loop-step.step _ c.loop-step.reading _ c.requires.room (omega (arith, c.loop-step-test.true)) c.loop-step.invariant.0
+
+pub resolve_step-requires-2-clause-room : goal.resolve_step-requires-2-clause-room
+resolve_step-requires-2-clause-room c = step_room _ _ _ c.args.exports.now c.loop-step.step _ c.loop-step.reading _ c.requires.room (omega (arith, c.loop-step-test.false, c.requires.some, c.loop-step.auto.step-end)) c.loop-step.invariant.0

@@ -5,7 +5,13 @@ use Rattle.tree_names.specs.declared.denotations.Denotations.{Denotations}
 use Rattle.tree_names.specs.AllFound.{all_found, FoundTaken}
 use Rattle.tree_names.proofs.Counting.{first_refused, then_refused}
 use Rattle.tree_names.proofs.Definitions.{definition_read}
+use Rattle.tree_names.proofs.Definitions.{definition_room}
 use Rattle.tree_names.proofs.node.resolve_definition.Goals as goal
+
+pub resolve_leaves-requires-clause-room : goal.resolve_leaves-requires-clause-room
+resolve_leaves-requires-clause-room g c =
+    definition_room c.args.scopes.now c.args.counters.now c.args.denotations (listed (map g.M.CoreSource.core_module c.args.cores.now) c.args.leaves.now) c.new-reading.result c.new-reading.ensures.counters c.new-reading.ensures.place c.new-reading.ensures.denotations
+    c.requires.served c.requires.room c.requires.numbered
 
 pub returns-in-Err-clause-resolves : goal.returns-in-Err-clause-resolves
 returns-in-Err-clause-resolves g c =
