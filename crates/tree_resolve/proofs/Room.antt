@@ -141,7 +141,7 @@ module _ (C : List CoreModule) (rest more : List Def) (d : Def) (e : rest ≡ d 
 
 -- behind the references of a definition, for its items
 pub sums_items : (os : List Open) (a b : Sums) (ls : Leaves) (n : ℕ) → LeavesCounted os a b ls → SumsHaveRoom a (most_needs ls + n) → CountersHaveRoom b.counters n
-sums_items os a b ls n g h = let r : SumsHaveRoom b n = sums_behind {os} {a} {b} ls n g h in r.room
+sums_items os a b ls n g h = let r : SumsHaveRoom b n = sums_behind ls n g h in r.room
 
 -- ---- the third pass
 

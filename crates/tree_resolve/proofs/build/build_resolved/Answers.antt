@@ -3,7 +3,21 @@ use Rattle.comp_model.specs.Spaces.{declares_row}
 use Rattle.comp_tree.specs.Lists.{listed}
 use Rattle.tree_resolve.proofs.Building.{definition-built}
 use Rattle.tree_resolve.proofs.BuiltPlain.{plain-needed, plain-becomes}
+use Rattle.std.proofs.Common.{◌+◌, length, arith}
+use Rattle.comp_tables.specs.Bounds.{most_needs}
+use Rattle.tree_resolve.proofs.Room.{room_less, resolved_room}
 use Rattle.tree_resolve.proofs.build.build_resolved.Goals as goal
+
+pub resolve_definition-requires-clause-room : goal.resolve_definition-requires-clause-room
+resolve_definition-requires-clause-room g c =
+    let ls = listed (map g.M.CoreSource.core_module c.args.cores.now) c.args.def.now.node.leaves.now in
+    room_less c.args.counters.now (most_needs ls + length (declares_row c.args.def.now.node.row ls)) (most_needs ls) (omega arith) c.requires.room
+
+pub advance_declared-requires : goal.advance_declared-requires
+advance_declared-requires g c =
+    let C = map g.M.CoreSource.core_module c.args.cores.now in
+    let ls = listed C c.args.def.now.node.leaves.now in
+    record { room = (C, resolved_room _ _ _ _ _ _ _ (length (declares_row c.args.def.now.node.row ls)) c.in-Ok.ensures.resolves c.requires.served c.requires.room) }
 
 pub returns-clause-built : goal.returns-clause-built
 returns-clause-built g c =

@@ -1,7 +1,11 @@
 use Rattle.std.proofs.Common.{map, ◌∙◌, []}
 use Rattle.comp_expanded.proofs.Resolved.{resolved-form, resolved-plan}
 use Rattle.tree_resolve.proofs.Whole.{source-expanded, source-rowed, source-alone, whole-rule, whole-form, whole-plan, whole-refused}
+use Rattle.std.proofs.Common.{◌≡◌, length, ap, arith}
 use Rattle.tree_resolve.proofs.component.resolve.Goals as goal
+
+pub resolve_scope-requires-clause-small : goal.resolve_scope-requires-clause-small
+resolve_scope-requires-clause-small g c = let n : length c.new-scopes.result.items ≡ 0 = ap length c.new-scopes.ensures.items in omega (arith, n, c.requires.small)
 
 pub resolve_scope-requires-clause-expanded : goal.resolve_scope-requires-clause-expanded
 resolve_scope-requires-clause-expanded g c = source-expanded c.requires.source.1

@@ -13,7 +13,17 @@ use Rattle.tree_resolve.proofs.NamesLeft.{found-behind, served-behind}
 use Rattle.tree_resolve.proofs.OpenedScope.{last-of, entered, taken-refused, kinds-refused}
 use Rattle.comp_expanded.specs.IsExpanded.{IsExpanded}
 use Rattle.comp_tree.proofs.Leaves.{scope_fields}
+use Rattle.std.proofs.Common.{arith}
+use Rattle.tree_resolve.proofs.Room.{scope_has_few, scope_declares_few}
 use Rattle.tree_resolve.proofs.opening.open.Goals as goal
+
+pub register_defs-requires : goal.register_defs-requires
+register_defs-requires c =
+    let few = scope_has_few c.requires.small.0 c.args.scope.now c.requires.small.1 in
+    record { few = omega (arith, few); small = (c.requires.small.0, scope_declares_few c.requires.small.0 c.args.scope.now c.requires.small.1) }
+
+pub count_defs-requires-clause-small : goal.count_defs-requires-clause-small
+count_defs-requires-clause-small c = (c.requires.small.0, scope_declares_few c.requires.small.0 c.args.scope.now c.requires.small.1)
 
 pub count_defs-requires-clause-expanded : goal.count_defs-requires-clause-expanded
 count_defs-requires-clause-expanded c = (c.requires.expanded.0, subst IsExpanded (scope_fields c.requires.expanded.0 c.args.scope.now) c.requires.expanded.1)

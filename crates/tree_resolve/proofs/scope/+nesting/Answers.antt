@@ -1,5 +1,9 @@
-use Rattle.std.proofs.Common.{List, Option, ◌≡◌, ◌<◌, ◌^◌, ◌+◌, [], ◌∷◌, refl, sym, ap, subst, ◌∙◌, map, length, replicate, arith, rules, inl}
-use Rattle.std.proofs.lemmas.List.{length-append}
+use Rattle.std.proofs.Common.{List, Option, ◌≡◌, ◌<◌, ◌^◌, ◌+◌, ◌-◌, ◌*◌, drop, [], ◌∷◌, refl, sym, ap, subst, ◌∙◌, map, length, replicate, arith, rules, inl}
+use Rattle.std.proofs.lemmas.List.{length-append, drop_more}
+use Rattle.comp_model.specs.Spaces.{declares_row}
+use Rattle.comp_tables.specs.Bounds.{most_needs}
+use Rattle.tree_names.specs.Size.{size_of_leaves}
+use Rattle.tree_resolve.proofs.Room.{room_less, few_references, def_small, def_room, no_counters, declared_few, built_room, scope_larger, scope_in}
 use Rattle.comp_scopes.specs.Names.{first_of_two}
 use Rattle.comp_model.specs.Model.{no_leaf, defs_of}
 use Rattle.comp_scopes.specs.Rowed.{Rowed, holds_scope}
@@ -56,7 +60,19 @@ resolve_def-build_definition-requires-in_default g t c =
       written_out = c.requires.written_out;
       kept = subst (λ os. FoundFirst os (λ ms. all_found ms (listed C xs)) c.args.denoted.now.left.now) (sym c.deref-in_default.ensures.value) c.requires.kept;
       served = subst (λ os. ServedFirst os c.args.counters.now (λ ms. all_served ms (listed C xs)) c.args.denoted.now.served.now) (sym c.deref-in_default.ensures.value) c.requires.served;
+      room = c.requires.room;
+      numbered = few_references (listed C xs) (length c.args.scopes.now.items) c.requires.small;
     }
+
+pub resolve_def-build_definition-requires-clause-numbered : goal.resolve_def-build_definition-requires-clause-numbered
+resolve_def-build_definition-requires-clause-numbered g t c = few_references (listed (map g.M.CoreSource.core_module c.args.cores.now) c.args.def.now.node.leaves.now) (length c.args.scopes.now.items) c.requires.small
+
+pub resolve_def-counters_behind-requires : goal.resolve_def-counters_behind-requires
+resolve_def-counters_behind-requires g t c =
+    let C = map g.M.CoreSource.core_module c.args.cores.now in
+    let ls = listed C c.args.def.now.node.leaves.now in
+    let n = length (declares_row c.args.def.now.node.row ls) in
+    record { room = (C, room_less c.args.counters.now (most_needs ls + n) n (omega arith) c.requires.room) }
 
 pub resolve_def-returns-in-Ok-push_holding-clause-resolves : goal.resolve_def-returns-in-Ok-push_holding-clause-resolves
 resolve_def-returns-in-Ok-push_holding-clause-resolves g t c =
@@ -93,6 +109,7 @@ resolve_defs-resolve_def-requires g t c κs within =
     let a = c.def-item.is in
     let same = c.loop-def.invariant.0 in
     let less = def-below c.args.defs.now n d h a in
+    let left = drop_more c.args.defs.now n _ h ∙ ap (λ z. z ∷ drop (n + 1) c.args.defs.now) (sym a) in
     let all = expanded-at C c.args.defs.now n d h a c.requires.expanded in (
       omega (arith, less, c.decreases),
       (
@@ -113,8 +130,14 @@ resolve_defs-resolve_def-requires g t c κs within =
                       all.0,
                       (
                         subst (λ os. FoundFirst os (λ ms. all_found ms (listed C d.node.leaves.now)) c.loop-def.denoted.left.now) (sym same) (def-front C c.args.scopes.now.items c.args.defs.now n d h a _ c.loop-def.denoted.left.now c.loop-def.invariant.2),
-                        subst (λ os. ServedFirst os c.loop-def.counters (λ ms. all_served ms (listed C d.node.leaves.now)) c.loop-def.denoted.served.now) (sym same)
-                            (def-served g.M.CoreRule.encoding C c.args.scopes.now.items c.args.defs.now c.loop-def.counters c.loop-def.denoted.served.now n d c.loop-def.list.items h a c.loop-def.invariant.1),
+                        (
+                          subst (λ os. ServedFirst os c.loop-def.counters (λ ms. all_served ms (listed C d.node.leaves.now)) c.loop-def.denoted.served.now) (sym same)
+                              (def-served g.M.CoreRule.encoding C c.args.scopes.now.items c.args.defs.now c.loop-def.counters c.loop-def.denoted.served.now n d c.loop-def.list.items h a c.loop-def.invariant.1),
+                          (
+                            subst (λ os. length os + 2 * size_of_leaves (listed C d.node.leaves.now) < 2 ^ 32 - 2) (sym same) (def_small C c.args.defs.now (length c.args.scopes.now.items) n d h a c.requires.small),
+                            def_room C _ _ d left c.loop-def.counters c.loop-def.invariant.3,
+                          ),
+                        ),
                       ),
                     ),
                   ),
@@ -132,6 +155,7 @@ resolve_defs-loop-def-init g t c = (
   defs-start g.M.CoreRule.encoding (map g.M.CoreSource.core_module c.args.cores.now) c.args.scopes.now.items c.args.defs.now c.new-counters.result _ c.new-list.result.items (ap length c.new-counters.ensures) (ap counters_in c.new-counters.ensures ∙ list-none)
       (λ ms w. c.deref-2.ensures.value ∙ c.requires.served ms w) c.new-list.ensures.items,
   λ ms w. c.deref.ensures.value ∙ c.requires.kept ms w,
+  no_counters c.new-counters.result _ c.new-counters.ensures (declared_few (map g.M.CoreSource.core_module c.args.cores.now) c.args.defs.now (length c.args.scopes.now.items) c.requires.small),
 )
 
 pub resolve_defs-loop-def-preserved : goal.resolve_defs-loop-def-preserved
@@ -145,6 +169,10 @@ resolve_defs-loop-def-preserved g t c =
           (subst (λ os. DefBuilt e C os c.loop-def.counters c.loop-def.denoted.served.now c.def-item.result c.loop-def.list.items c.resolve_def.new.list.items c.in-Ok.behind c.resolve_def.new.denoted.served.now) same c.in-Ok.ensures.resolves),
       def-passed C c.args.scopes.now.items c.args.defs.now c.loop-def.def-index d c.loop-def-test.true c.def-item.is c.loop-def.denoted.left.now c.resolve_def.new.denoted.left.now c.loop-def.invariant.2
           (subst (λ os. FoundTaken os (λ ms. all_found ms (listed C d.node.leaves.now)) c.loop-def.denoted.left.now c.resolve_def.new.denoted.left.now) same c.in-Ok.ensures.taken),
+      built_room C _ _ d (drop_more c.args.defs.now c.loop-def.def-index _ c.loop-def-test.true ∙ ap (λ z. z ∷ drop (c.loop-def.def-index + 1) c.args.defs.now) (sym c.def-item.is)) c.loop-def.counters c.loop-def.invariant.3 e c.args.scopes.now.items c.loop-def.denoted.served.now
+          c.resolve_def.new.denoted.served.now c.loop-def.list.items c.resolve_def.new.list.items c.in-Ok.behind
+          (subst (λ os. DefBuilt e C os c.loop-def.counters c.loop-def.denoted.served.now c.def-item.result c.loop-def.list.items c.resolve_def.new.list.items c.in-Ok.behind c.resolve_def.new.denoted.served.now) same c.in-Ok.ensures.resolves)
+          (def-served e C c.args.scopes.now.items c.args.defs.now c.loop-def.counters c.loop-def.denoted.served.now c.loop-def.def-index d c.loop-def.list.items c.loop-def-test.true c.def-item.is c.loop-def.invariant.1),
     )
 
 pub resolve_defs-returns-in-Err-clause-resolves : goal.resolve_defs-returns-in-Err-clause-resolves
@@ -171,6 +199,12 @@ resolve_defs-returns-in-Ok-place_all-clause-resolves g t c =
 
 -- ---- a scope
 
+pub resolve_scope-open-requires-clause-few : goal.resolve_scope-open-requires-clause-few
+resolve_scope-open-requires-clause-few g t c = omega (arith, c.requires.small)
+
+pub resolve_scope-open-requires-clause-small : goal.resolve_scope-open-requires-clause-small
+resolve_scope-open-requires-clause-small g t c = (map g.M.CoreSource.core_module c.args.cores.now, omega (arith, c.requires.small))
+
 pub resolve_scope-open-requires-clause-expanded : goal.resolve_scope-open-requires-clause-expanded
 resolve_scope-open-requires-clause-expanded g t c = (map g.M.CoreSource.core_module c.args.cores.now, c.requires.expanded)
 
@@ -185,7 +219,7 @@ resolve_scope-resolve_defs-requires g t c κs within =
     let entered = c.in-Ok.ensures.entered C in
     let same = scope-by-fields c.args.scope.now in
     let long : length c.open.new.scopes.items ≡ length c.args.scopes.now.items + 1 = ap length entered.one_more ∙ length-append c.args.scopes.now.items (entered.innermost ∷ []) in
-    let few = c.if-len.false in
+    let few = c.requires.small in
     let kept = subst (λ x. FoundAll c.open.new.scopes.items (λ ms. defs_found ms (defs_of x)) c.in-Ok.kept.found.items) (scope_fields C c.args.scope.now) (c.in-Ok.ensures.kept C) in
     let served = subst (λ x. ServedAll c.open.new.scopes.items (λ ms. defs_served ms (defs_of x) no_counts) c.in-Ok.kept.served.items) (scope_fields C c.args.scope.now) (c.in-Ok.ensures.served C) in (
       omega (arith, same, c.decreases),
@@ -199,7 +233,10 @@ resolve_scope-resolve_defs-requires g t c κs within =
               subst IsExpanded (scope_fields C c.args.scope.now) c.requires.expanded,
               (
                 subst ScopesAlone (scope_fields C c.args.scope.now) c.requires.alone,
-                (subst Rowed (scope_fields C c.args.scope.now) c.requires.rowed, (kept, served)),
+                (
+                  subst Rowed (scope_fields C c.args.scope.now) c.requires.rowed,
+                  (kept, (served, scope_larger C c.args.scope.now (length c.args.scopes.now.items) (length c.open.new.scopes.items) c.requires.small long)),
+                ),
               ),
             ),
           ),

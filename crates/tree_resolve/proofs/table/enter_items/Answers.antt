@@ -1,10 +1,12 @@
+use Rattle.std.proofs.Common.{sym, subst, ◌+◌, ◌<◌, ◌^◌, length, ℕ}
+use Rattle.tree_resolve.proofs.Room.{first_fits}
 use Rattle.tree_resolve.proofs.table.enter_items.Goals as goal
 
-pub returns-in-Ok-advance_all-clause-entered : goal.returns-in-Ok-advance_all-clause-entered
-returns-in-Ok-advance_all-clause-entered c = record {
-  index = c.in-Ok.first;
-  table = c.in-Ok-push.ensures.items;
-  first = c.in-Ok.ensures.first;
-  small = c.in-Ok.ensures.small;
-  behind = c.in-Ok-advance_all.ensures.advanced;
+pub returns-clause-entered : goal.returns-clause-entered
+returns-clause-entered c = record {
+  index = c.first_of-first.result;
+  table = c.in-Ok.ensures.items;
+  first = c.first_of-first.ensures;
+  small = subst (λ (i : ℕ). i + length c.args.spaces.now < 2 ^ 32) (sym c.first_of-first.ensures) (first_fits c.args.counters.now c.args.spaces.now c.requires.room);
+  behind = c.advance_all.ensures.advanced;
 }
