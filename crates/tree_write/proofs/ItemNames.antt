@@ -64,7 +64,7 @@ drop_twice zero n xs = let e : 0 + n ≡ n = omega arith in sym (ap (λ k. drop 
 drop_twice (suc p) n [] = no_rest n ∙ sym (no_rest (suc p + n))
 drop_twice (suc p) n (x ∷ xs) = let e : suc p + n ≡ suc (p + n) = omega arith in drop_twice p n xs ∙ sym (ap (λ k. drop k (x ∷ xs)) e)
 
-length_of : {A : Type 0} (n : ℕ) (x : A) → length (replicate n x) ≡ n
+pub length_of : {A : Type 0} (n : ℕ) (x : A) → length (replicate n x) ≡ n
 length_of zero x = refl
 length_of (suc n) x = ap suc (length_of n x)
 
@@ -91,11 +91,11 @@ none_pushed s u i old = go (same_space s u)
 
 -- ---- parts
 
-one_part : (s u : Space) (b before at rest index : ℕ) (ids : List (Option Id)) (labels : List (Option Text)) (name : Option Text) → 0 < rest → index ≡ before + at → (same_space s u ≡ true → b ≡ before)
+one_part : (s u : Space) (b at rest index : ℕ) (ids : List (Option Id)) (labels : List (Option Text)) (name : Option Text) → 0 < rest → (same_space s u ≡ true → index ≡ b + at)
     → name ≡ label_or_id (first_or_none (drop at labels)) (first_or_none (drop at ids))
     → along s b at (drop at ids) (drop at labels) (replicate rest u) ≡ name_in_front (same_space s u) name index [] ++ along s b (at + 1) (drop (at + 1) ids) (drop (at + 1) labels) (replicate (rest - 1) u)
-one_part s u b before at zero index ids labels name h i k n = absurd (omega arith)
-one_part s u b before at (suc r) index ids labels name h i k n = go (same_space s u) refl
+one_part s u b at zero index ids labels name h k n = absurd (omega arith)
+one_part s u b at (suc r) index ids labels name h k n = go (same_space s u) refl
   where
     x : Option Text
     x = label_or_id (first_or_none (drop at labels)) (first_or_none (drop at ids))
@@ -109,20 +109,20 @@ one_part s u b before at (suc r) index ids labels name h i k n = go (same_space 
 
     go : (c : Bool) → same_space s u ≡ c → name_in_front c x (b + at) (along s b (at + 1) (rest_of (drop at ids)) (rest_of (drop at labels)) (replicate r u)) ≡ name_in_front c name index [] ++ along s b (at + 1) (drop (at + 1) ids) (drop (at + 1) labels) (replicate (suc r - 1) u)
     go true e =
-        let here : b + at ≡ index = omega (arith, i, k e) in
+        let here : b + at ≡ index = sym (k e) in
         ap (name_in_front true x (b + at)) tail ∙ ap (λ j. name_in_front true x j (along s b (at + 1) (drop (at + 1) ids) (drop (at + 1) labels) (replicate (suc r - 1) u))) here
         ∙ ap (λ y. name_in_front true y index (along s b (at + 1) (drop (at + 1) ids) (drop (at + 1) labels) (replicate (suc r - 1) u))) (sym n)
         ∙ sym (front-append true name index [] (along s b (at + 1) (drop (at + 1) ids) (drop (at + 1) labels) (replicate (suc r - 1) u)))
     go false e = tail
 
-pub part_turn : (s u : Space) (b before at next rest index : ℕ) (ids : List (Option Id)) (labels : List (Option Text)) (name : Option Text) (now new all : List ItemName) → next ≡ at + 1 → 0 < rest → index ≡ before + at → (same_space s u ≡ true → b ≡ before)
+pub part_turn : (s u : Space) (b at next rest index : ℕ) (ids : List (Option Id)) (labels : List (Option Text)) (name : Option Text) (now new all : List ItemName) → next ≡ at + 1 → 0 < rest → (same_space s u ≡ true → index ≡ b + at)
     → name ≡ label_or_id (first_or_none (drop at labels)) (first_or_none (drop at ids)) → new ≡ now ++ name_in_front (same_space s u) name index []
     → now ++ along s b at (drop at ids) (drop at labels) (replicate rest u) ≡ all → new ++ along s b next (drop next ids) (drop next labels) (replicate (rest - 1) u) ≡ all
-part_turn s u b before at next rest index ids labels name now new all x h i k n a l =
+part_turn s u b at next rest index ids labels name now new all x h k n a l =
     let left = along s b (at + 1) (drop (at + 1) ids) (drop (at + 1) labels) (replicate (rest - 1) u) in
     ap (λ q. new ++ along s b q (drop q ids) (drop q labels) (replicate (rest - 1) u)) x
     ∙ ap (λ q. q ++ left) a ∙ append_assoc now (name_in_front (same_space s u) name index []) left
-    ∙ ap (λ q. now ++ q) (sym (one_part s u b before at rest index ids labels name h i k n)) ∙ l
+    ∙ ap (λ q. now ++ q) (sym (one_part s u b at rest index ids labels name h k n)) ∙ l
 
 pub parts_done : (s u : Space) (b at rest : ℕ) (ids : List (Option Id)) (labels : List (Option Text)) (now all : List ItemName) → rest ≤ 0 → now ++ along s b at (drop at ids) (drop at labels) (replicate rest u) ≡ all → now ≡ all
 parts_done s u b at zero ids labels now all h l = sym (append-nil now) ∙ l
@@ -194,7 +194,7 @@ got_other (z ∷ xs) (suc i) (suc j) x y n = got_other xs i j x y (λ e. n (ap s
 -- ---- leaves
 
 module _ (cores : List CoreModule) where
-  leaves_left : (xs : List Leaf) (i : ℕ) (x : Leaf) (d : Declares) (r : Run) → i < length xs → x ≡ get_or xs i x → run_of r ≡ leaf_spaces (leaf_of cores x) d
+  pub leaves_left : (xs : List Leaf) (i : ℕ) (x : Leaf) (d : Declares) (r : Run) → i < length xs → x ≡ get_or xs i x → run_of r ≡ leaf_spaces (leaf_of cores x) d
       → leaves_spaces (listed cores (drop i xs)) d ≡ run_of r ++ leaves_spaces (listed cores (drop (i + 1) xs)) d
   leaves_left xs i x d r h e g = ap (λ ys. leaves_spaces (listed cores ys) d) (dropped xs i x h e) ∙ ap (λ y. y ++ leaves_spaces (listed cores (drop (i + 1) xs)) d) (sym g)
 

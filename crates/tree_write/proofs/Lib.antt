@@ -10,6 +10,7 @@ pub mod Closing
 pub mod CoreLeaves
 pub mod ItemNames
 pub mod CountedItems
+pub mod FewCounted
 pub mod SpaceSums
 pub mod NameSections
 pub mod ProducerFields

@@ -72,6 +72,10 @@ counts n xs w e = elim (cases_lt n 18_446_744_073_709_551_615) [
   ]
 ]
 
+-- of fewer than 2 ^ 32 bytes it is their number
+pub short_count : (n : ℕ) (xs : List ℕ) → n < 2 ^ 64 → length xs < 2 ^ 32 → count_kept n ≡ put xs (count_kept 0) → n ≡ length xs
+short_count n xs w h e = let k = counts n xs w e in omega (arith, h, k)
+
 -- a capped number is below 2 ^ 32 where the number is
 word_of : (n k : ℕ) → n ≡ min k (2 ^ 64 - 1) → is_word n ≡ is_word k
 word_of n k e = elim (cases_lt k (2 ^ 32)) [

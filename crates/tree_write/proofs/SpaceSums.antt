@@ -113,7 +113,7 @@ parts_turn s u before now new at next rest of all q h a n r f l =
     let ks = l.0 ++ name_in_front true name (b + at) [] in (
       ks,
       f l.0 (omega (arith, h, a)) l.1,
-      part_turn s u b b at next rest (b + at) (ids_in of) (labels_in of) name l.0 ks all n r refl (λ z. refl) refl (ap (λ c. l.0 ++ name_in_front c name (b + at) []) (sym q)) l.2,
+      part_turn s u b at next rest (b + at) (ids_in of) (labels_in of) name l.0 ks all n r (λ z. refl) refl (ap (λ c. l.0 ++ name_in_front c name (b + at) []) (sym q)) l.2,
     )
 
 pub parts_out : (s u : Space) (b : ℕ) (now : SpaceSum) (at rest parts : ℕ) (of : Names) (all : List ItemName) → length of.ids.now ≤ parts → length of.labels.now ≤ parts → parts ≤ at → PartsSoFar s u b now at rest of all → Tells now all

@@ -5,6 +5,7 @@ pub mod OpenSection
 pub mod Along
 pub mod Produced
 pub mod Plans
+pub mod FewItems
 pub mod Measured
 pub mod CountedItems
 pub mod SpaceSums

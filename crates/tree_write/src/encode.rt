@@ -1,11 +1,12 @@
 //! A resolved component, written.
 
-ghost use Rattle.std.specs.Prelude.{◌≡◌, IfOk, IfErr, map, List, length};
+ghost use Rattle.std.specs.Prelude.{◌≡◌, ◌<◌, ◌^◌, IfOk, IfErr, map, List, length};
 ghost use Rattle.comp_model.specs.CoreModules.{CoreModule};
 ghost use Rattle.comp_tree.specs.Model.{scope_of};
 ghost use Rattle.comp_wire.specs.Read.{FitsComponent, Reads};
 ghost use Rattle.comp_wire.specs.Spelled.{spell_component};
 ghost use Rattle.tree_write.specs.Along.{payload_by};
+ghost use Rattle.tree_write.specs.FewItems.{FewItems};
 ghost use Rattle.tree_write.specs.Kept.{count_kept, put};
 ghost use Rattle.tree_write.specs.Plans.{payloads};
 ghost use Rattle.tree_write.specs.Wire.{wire_scope};
@@ -22,7 +23,7 @@ use wast_parser::{Error, ErrorKind};
 
 /// The names of a component and of those in it.
 fn plans_of<'a>(alloc: Global, scope: &Scope<'_, 'a>) -> Result<Vec<ComponentNames<'a>>, NoMemory>
-    ensures { IfOk result (λ v. (cores : List CoreModule) → map payload_by v.items ≡ payloads (scope_of cores scope.now)) }
+    ensures { IfOk result (λ v. (cores : List CoreModule) → FewItems (scope_of cores scope.now) → map payload_by v.items ≡ payloads (scope_of cores scope.now)) }
 {
     let mut plans = Vec::new(alloc);
     gather_names(alloc, &mut plans, scope)?;
@@ -69,21 +70,18 @@ fn filled<M: CoreBytes>(
     buffer.bytes
 }
 
-/// The bytes of a component, whatever stands in it: where it can be written, the binary format reads them as exactly the component that
-/// the tree stands for. It is refused where memory ran out.
+/// The bytes of a component, whatever stands in it: where `encode_scope` may be called, the binary format reads them as exactly the component
+/// that the tree stands for. It is refused where an allocation failed.
 pub fn component_bytes<M: CoreBytes>(
     alloc: Global,
     modules: &[M],
     scope: &Scope<'_, '_>,
 ) -> Result<Vec<u8>, NoMemory>
-    ensures { IfOk result (λ v. FitsComponent (wire_scope (map M.core_module modules.now) scope.now) → Reads v.items (wire_scope (map M.core_module modules.now) scope.now)) }
+    ensures { IfOk result (λ v. FitsComponent (wire_scope (map M.core_module modules.now) scope.now) → length (spell_component (wire_scope (map M.core_module modules.now) scope.now)) < 2 ^ 32 → FewItems (scope_of (map M.core_module modules.now) scope.now) → Reads v.items (wire_scope (map M.core_module modules.now) scope.now)) }
 {
     let plans = plans_of(alloc, scope)?;
-    let length = measured(modules, plans.as_slice(), scope);
-    if length == u64::MAX {
-        return Err(NoMemory);
-    }
-    let bytes = room(alloc, length)?;
+    let size = measured(modules, plans.as_slice(), scope);
+    let bytes = room(alloc, size)?;
     Ok(filled(modules, plans.as_slice(), scope, bytes))
 }
 
@@ -91,14 +89,17 @@ pub fn component_bytes<M: CoreBytes>(
 /// exactly the component that the tree stands for, with its name sections.
 ///
 /// It needs that the component can be written: no form in it is read and never written, every number fits its place, and every count,
-/// index and length is below 2^32. Everything is measured first; then memory is asked for, once, and every byte is written once. Want
-/// of memory is the one refusal, `NoMemory` at 0, and comes before the first byte.
+/// index and length is below 2^32, that of the whole too; and that no component in it declares 2^64 items. Everything is measured first;
+/// then memory is asked for, once, and every byte is written once. Want of memory is the one refusal, `NoMemory` at 0: an allocation
+/// failed, before the first byte.
 pub fn encode_scope<M: CoreBytes>(
     alloc: Global,
     modules: &[M],
     scope: &Scope<'_, '_>,
 ) -> Result<Vec<u8>, Error>
     requires fits { FitsComponent (wire_scope (map M.core_module modules.now) scope.now) }
+    requires length { length (spell_component (wire_scope (map M.core_module modules.now) scope.now)) < 2 ^ 32 }
+    requires few { FewItems (scope_of (map M.core_module modules.now) scope.now) }
     ensures reads { IfOk result (λ v. Reads v.items (wire_scope (map M.core_module modules.now) scope.now)) }
     ensures refused { IfErr result (λ e. (e.kind ≡ ErrorKind.NoMemory) × (e.offset ≡ 0)) }
 {

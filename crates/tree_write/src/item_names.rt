@@ -1,15 +1,16 @@
 //! The items that have a name, and what the name section of a component holds (Component Model binary format, "Name Section").
 
-ghost use Rattle.std.specs.Prelude.{◌≡◌, ◌<◌, ℕ, ◌+◌, List, [], ◌++◌, IfOk, OnOk, map, drop, true, option_map, length};
+ghost use Rattle.std.specs.Prelude.{◌≡◌, ◌<◌, ℕ, ◌+◌, ◌^◌, List, [], ◌++◌, IfOk, OnOk, map, drop, true, option_map, length};
 ghost use Rattle.comp_model.specs.Core.{label_or_id};
 ghost use Rattle.comp_model.specs.CoreModules.{CoreModule};
 ghost use Rattle.comp_model.specs.ItemNames.{first_or_none, name_in_front};
 ghost use Rattle.comp_model.specs.Spaces.{leaves_spaces, same_space};
 ghost use Rattle.comp_tree.specs.Model.{id_of, lent_text, scope_of};
-ghost use Rattle.comp_tree.specs.Lists.{listed};
+ghost use Rattle.comp_tree.specs.Lists.{listed, defs_listed};
 ghost use Rattle.comp_tree.specs.Spaces.{run_of};
-ghost use Rattle.tree_write.specs.Along.{along, ids_in, labels_in, names_of_def, names_in, of_space, payload_by};
+ghost use Rattle.tree_write.specs.Along.{along, ids_in, labels_in, names_of_def, names_in, of_space, payload_by, spaces_of};
 ghost use Rattle.tree_write.specs.CountedItems.{count_of};
+ghost use Rattle.tree_write.specs.FewItems.{count_declared, FewItems};
 ghost use Rattle.tree_write.specs.Wire.{payload_of};
 
 use crate::space_counts::{Items, count_items, entries, small};
@@ -37,16 +38,6 @@ pub struct ComponentNames<'a> {
     pub own: Option<&'a str>,
     /// Those of its items, by definition.
     pub items: Vec<NamedItem<'a>>,
-}
-
-/// A sum of two counts.
-fn added(a: u64, b: u64) -> Result<u64, NoMemory>
-    ensures { IfOk result (λ n. n ≡ a + b) }
-{
-    match a.checked_add(b) {
-        Some(sum) => Ok(sum),
-        None => Err(NoMemory),
-    }
 }
 
 /// The name of an item: its label, or else its id, where that isn't generated.
@@ -117,14 +108,14 @@ fn push_parts<'a>(
     from: u64,
     run: Run,
 ) -> Result<(), NoMemory>
-    ensures { OnOk result ((s : Space) → (b : ℕ) → (same_space s run.space ≡ true → b ≡ before) → of_space s items.new.items ≡ of_space s items.old.items ++ along s b from (drop from (ids_in of.now)) (drop from (labels_in of.now)) (run_of run)) }
+    ensures { OnOk result ((s : Space) → (b : ℕ) → (same_space s run.space ≡ true → b ≡ before) → b + (from + run.count) < 2 ^ 64 → of_space s items.new.items ≡ of_space s items.old.items ++ along s b from (drop from (ids_in of.now)) (drop from (labels_in of.now)) (run_of run)) }
 {
     let mut at = from;
     let mut rest = run.count;
     while rest > 0 {
-        let index = added(before, at)?;
+        let index = before.saturating_add(at);
         push_name(items, run.space, index, part_name(of, at as usize))?;
-        at = added(at, 1)?;
+        at = at.saturating_add(1);
         rest -= 1;
     }
     Ok(())
@@ -139,14 +130,14 @@ fn push_leaf_names<'a>(
     leaves: &[Leaf<'_, '_>],
 ) -> Result<(), NoMemory>
     requires spaces { length counts.now ≡ 13 }
-    ensures { OnOk result ((cores : List CoreModule) (s : Space) → of_space s items.new.items ≡ of_space s items.old.items ++ along s (count_of s counts.now) 0 (ids_in of.now) (labels_in of.now) (leaves_spaces (listed cores leaves.now) by)) }
+    ensures { OnOk result ((cores : List CoreModule) (s : Space) → count_of s counts.now + length (leaves_spaces (listed cores leaves.now) by) < 2 ^ 64 → of_space s items.new.items ≡ of_space s items.old.items ++ along s (count_of s counts.now) 0 (ids_in of.now) (labels_in of.now) (leaves_spaces (listed cores leaves.now) by)) }
 {
-    let mut part = 0;
+    let mut part: u64 = 0;
     for leaf in leaves {
         let run = leaf_run(leaf, by);
-        let before = small(counts[space_number(run.space) as usize])?;
+        let before = small(counts[space_number(run.space) as usize]);
         push_parts(items, of, before, part, run)?;
-        part = added(part, run.count as u64)?;
+        part = part.saturating_add(run.count as u64);
     }
     Ok(())
 }
@@ -158,11 +149,11 @@ fn push_def_names<'a>(
     def: &Def<'_, 'a>,
 ) -> Result<(), NoMemory>
     requires spaces { length counts.now ≡ 13 }
-    ensures { OnOk result ((cores : List CoreModule) (s : Space) → of_space s items.new.items ≡ of_space s items.old.items ++ names_of_def cores s (count_of s counts.now) def.now) }
+    ensures { OnOk result ((cores : List CoreModule) (s : Space) → count_of s counts.now + length (spaces_of cores def.now) < 2 ^ 64 → of_space s items.new.items ≡ of_space s items.old.items ++ names_of_def cores s (count_of s counts.now) def.now) }
 {
     match declares_by(def.node.row) {
         Declares::Always(space) => {
-            let before = small(counts[space_number(space) as usize])?;
+            let before = small(counts[space_number(space) as usize]);
             push_parts(items, def.names, before, 0, Run { space, count: 1 })
         }
         Declares::Nothing => Ok(()),
@@ -204,7 +195,7 @@ fn push_def_names<'a>(
 
 /// The items of definitions that have a name, with their indices: each definition is looked at once.
 fn items_of<'a>(alloc: Global, defs: &[Def<'_, 'a>]) -> Result<Vec<NamedItem<'a>>, NoMemory>
-    ensures { IfOk result (λ v. (cores : List CoreModule) (s : Space) → of_space s v.items ≡ names_in cores s 0 defs.now) }
+    ensures { IfOk result (λ v. (cores : List CoreModule) (s : Space) → count_declared (defs_listed cores defs.now) < 2 ^ 64 → of_space s v.items ≡ names_in cores s 0 defs.now) }
 {
     let mut items = Vec::new(alloc);
     let mut counts = [Items { high: 0, low: 0 }; 13];
@@ -218,7 +209,7 @@ fn items_of<'a>(alloc: Global, defs: &[Def<'_, 'a>]) -> Result<Vec<NamedItem<'a>
 
 /// The names of a scope: none where it is a type.
 pub fn scope_names<'a>(alloc: Global, scope: &Scope<'_, 'a>) -> Result<ComponentNames<'a>, NoMemory>
-    ensures { IfOk result (λ n. (cores : List CoreModule) → payload_by n ≡ payload_of (scope_of cores scope.now)) }
+    ensures { IfOk result (λ n. (cores : List CoreModule) → FewItems (scope_of cores scope.now) → payload_by n ≡ payload_of (scope_of cores scope.now)) }
 {
     match scope.kind {
         ScopeKind::Component => Ok(ComponentNames {

@@ -7,6 +7,7 @@ ghost use Rattle.comp_model.specs.declared.row.Row.TheVariants as rows;
 ghost use Rattle.comp_model.specs.RowNumbers.{same_row};
 ghost use Rattle.comp_tree.specs.Lists.{node_of, defs_listed};
 ghost use Rattle.tree_write.specs.Along.{payload_by};
+ghost use Rattle.tree_write.specs.FewItems.{FewItems, FewIn, FewInDefs};
 ghost use Rattle.tree_write.specs.Plans.{payloads, payloads_in, payloads_of_defs, scope_leaf, component_in};
 
 use crate::item_names::{ComponentNames, scope_names};
@@ -35,7 +36,7 @@ pub fn gather_names<'a>(
     plans: &mut Vec<ComponentNames<'a>>,
     scope: &Scope<'_, 'a>,
 ) -> Result<(), NoMemory>
-    ensures { OnOk result ((cores : List CoreModule) → map payload_by plans.new.items ≡ map payload_by plans.old.items ++ payloads (scope_of cores scope.now)) }
+    ensures { OnOk result ((cores : List CoreModule) → FewItems (scope_of cores scope.now) → map payload_by plans.new.items ≡ map payload_by plans.old.items ++ payloads (scope_of cores scope.now)) }
 {
     let names = scope_names(alloc, scope)?;
     push_names(plans, names)?;
@@ -49,7 +50,7 @@ fn gather_leaf<'a>(
     plans: &mut Vec<ComponentNames<'a>>,
     leaf: &Leaf<'_, 'a>,
 ) -> Result<(), NoMemory>
-    ensures { OnOk result ((cores : List CoreModule) → map payload_by plans.new.items ≡ map payload_by plans.old.items ++ payloads_in (scope_leaf (leaf_of cores leaf.now))) }
+    ensures { OnOk result ((cores : List CoreModule) → FewIn (scope_leaf (leaf_of cores leaf.now)) → map payload_by plans.new.items ≡ map payload_by plans.old.items ++ payloads_in (scope_leaf (leaf_of cores leaf.now))) }
 {
     match leaf {
         Leaf::Scope(scope) => gather_names(alloc, plans, scope),
@@ -64,7 +65,7 @@ fn gather_def<'a>(
     plans: &mut Vec<ComponentNames<'a>>,
     def: &Def<'_, 'a>,
 ) -> Result<(), NoMemory>
-    ensures { OnOk result ((cores : List CoreModule) → map payload_by plans.new.items ≡ map payload_by plans.old.items ++ payloads_in (component_in (node_of cores def.now.node))) }
+    ensures { OnOk result ((cores : List CoreModule) → FewIn (component_in (node_of cores def.now.node)) → map payload_by plans.new.items ≡ map payload_by plans.old.items ++ payloads_in (component_in (node_of cores def.now.node))) }
 {
     if !is_component(def.node.row) {
         return Ok(());
@@ -82,7 +83,7 @@ fn gather_defs<'a>(
     plans: &mut Vec<ComponentNames<'a>>,
     defs: &[Def<'_, 'a>],
 ) -> Result<(), NoMemory>
-    ensures { OnOk result ((cores : List CoreModule) → map payload_by plans.new.items ≡ map payload_by plans.old.items ++ payloads_of_defs (defs_listed cores defs.now)) }
+    ensures { OnOk result ((cores : List CoreModule) → FewInDefs (defs_listed cores defs.now) → map payload_by plans.new.items ≡ map payload_by plans.old.items ++ payloads_of_defs (defs_listed cores defs.now)) }
 {
     for i in (0..defs.len()).rev() {
         gather_def(alloc, plans, &defs[i])?;

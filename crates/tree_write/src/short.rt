@@ -282,7 +282,7 @@ fn is_component(kind: ScopeKind) -> bool
     }
 }
 
-/// Whether a component can be written, whatever stands in it: exactly where `encode_scope` may be called. It takes no memory.
+/// Whether a component can be written, whatever stands in it: exactly where `FitsComponent` holds. It takes no memory.
 pub fn can_be_written<M: CoreBytes>(modules: &[M], scope: &Scope<'_, '_>) -> bool
     ensures exact { result ≡ fits (wire_scope (map M.core_module modules.now) scope.now) }
 {

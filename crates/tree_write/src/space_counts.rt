@@ -1,6 +1,6 @@
 //! How many items of each space definitions declare (Component Model, "Index Spaces").
 
-ghost use Rattle.std.specs.Prelude.{◌≡◌, ◌≤◌, ◌<◌, ◌+◌, ◌-◌, ◌^◌, List, length, IfOk};
+ghost use Rattle.std.specs.Prelude.{◌≡◌, ◌≤◌, ◌<◌, ◌+◌, ◌-◌, ◌^◌, List, length, min};
 ghost use Rattle.comp_model.specs.CoreModules.{CoreModule};
 ghost use Rattle.comp_model.specs.Spaces.{count_in, leaves_spaces};
 ghost use Rattle.comp_tree.specs.Lists.{listed};
@@ -10,7 +10,7 @@ ghost use Rattle.tree_write.specs.CountedItems.{count_of, items_in, most_items, 
 
 use comp_model::{Declares, Space, declares_by};
 use comp_tree::{Def, Leaf, Run, leaf_run};
-use comp_wire::{NoMemory, space_number};
+use comp_wire::space_number;
 
 /// A count of items in 192 bits: no list of definitions has more.
 #[derive(Clone, Copy)]
@@ -32,14 +32,11 @@ pub fn more(items: Items, count: u64) -> Items
     }
 }
 
-/// A count in 64 bits; it is refused where it has no room there.
-pub fn small(items: Items) -> Result<u64, NoMemory>
-    ensures { IfOk result (λ n. n ≡ items_in items) }
+/// A count in 64 bits; `u64::MAX` stands for every greater number.
+pub fn small(items: Items) -> u64
+    ensures { result ≡ min (items_in items) (2 ^ 64 - 1) }
 {
-    if items.high > 0 {
-        return Err(NoMemory);
-    }
-    Ok(items.low)
+    if items.high > 0 { u64::MAX } else { items.low }
 }
 
 /// How many items a run has.

@@ -1,5 +1,5 @@
 -- What the passes ask of a component and answer of it.
-use Rattle.std.proofs.Common.{◌≡◌, ◌≤◌, ◌∙◌, refl, sym, ap, subst, ℕ, true, List, [], ◌∷◌, map, Option, Some, None, option_map, Result, Ok, Err, arith}
+use Rattle.std.proofs.Common.{◌≡◌, ◌<◌, ◌≤◌, ◌^◌, ◌∙◌, refl, sym, ap, subst, ℕ, true, List, [], ◌∷◌, map, Option, Some, None, option_map, Result, Ok, Err, arith}
 use Rattle.std.specs.Prelude.{IfOk, OnOk}
 use Rattle.std.specs.Global.{Vec}
 use Rattle.comp_model.specs.Core.{CoreRefusal}
@@ -16,7 +16,11 @@ use Rattle.comp_scopes.specs.Rule.{ScopeRule}
 use Rattle.comp_tree.specs.Marks.{marks_of}
 use Rattle.comp_tree.specs.Model.{scope_of, id_of, lent_text}
 use Rattle.comp_tree.specs.declared.tree.Scope.{Scope}
+use Rattle.comp_scopes.proofs.RowsRowed.{scope-rowed}
+use Rattle.comp_weight.proofs.FairRows.{fair-defs}
+use Rattle.comp_weight.proofs.Forms.{form-cost}
 use Rattle.comp_weight.proofs.Law.{form-written}
+use Rattle.comp_weight.specs.Cost.{cost_scope}
 use Rattle.comp_weight.specs.Formats.{ByFormats}
 use Rattle.comp_wire.specs.Read.{FitsComponent, Reads}
 use Rattle.core_model.specs.Module.{core_bytes, module_with}
@@ -54,6 +58,13 @@ source s x os text e = expansion-source s x os (text.1).rows (text.1).written te
 -- the form of a light component can be written
 pub form_fits : (s : m.Scope) → IsOfText (in_text s) → weight_of s ≤ 67_108_864 → uncovered s ≡ None → ScopeRule the_encoding [] s → FitsComponent (form the_encoding [] s)
 form_fits s text light covered rule = form-written the_encoding by-formats _ s text.1 (omega (arith, light)) text.0 rule covered
+
+-- it costs few bytes
+pub form_cost : (s : m.Scope) → IsOfText (in_text s) → weight_of s ≤ 67_108_864 → cost_scope (form the_encoding [] s) < 2 ^ 32
+form_cost (m.scope_of k id label ds) text light =
+    let t = text.1 in
+    let fair = fair-defs ds k t.rows (scope-rowed (m.scope_of k id label ds) t.rows t.written) t.numerals t.names in
+    omega (arith, form-cost the_encoding by-formats k id label ds (omega (arith, light)) fair, light)
 
 -- so it is of the component with its light modules, which are all that it holds
 pub light_source : (C D : List CoreModule) (scope x : Scope) → IsOfText (in_text (scope_of C scope)) → weight_of (scope_of C scope) ≤ 67_108_864

@@ -5,6 +5,7 @@ pub mod Modules
 pub mod Weighed
 pub mod Encodings
 pub mod Cores
+pub mod LightItems
 pub mod Chain
 pub mod Causes
 pub mod Texts

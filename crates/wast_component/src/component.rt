@@ -1,6 +1,6 @@
 //! The encoding of a component by its tree: measured, expanded, resolved and written.
 
-ghost use Rattle.std.specs.Prelude.{◌≡◌, ◌≤◌, ◌⊎◌, List, [], None, Some, is_some, map, option_map, IfOk, IfErr, OnOk};
+ghost use Rattle.std.specs.Prelude.{◌≡◌, ◌≤◌, ◌<◌, ◌^◌, ◌⊎◌, List, [], None, Some, is_some, map, option_map, IfOk, IfErr, OnOk};
 ghost use Rattle.comp_model.specs.CoreModules.{CoreModule};
 ghost use Rattle.comp_model.specs.Model.{Scope as ModelScope};
 ghost use Rattle.comp_expanded.specs.IsResolved.{IsResolved};
@@ -10,6 +10,7 @@ ghost use Rattle.comp_scopes.specs.Rule.{ScopeRule};
 ghost use Rattle.comp_scopes.specs.Unmet.{first_unmet};
 ghost use Rattle.comp_tree.specs.Marks.{marks_of};
 ghost use Rattle.comp_tree.specs.Model.{scope_of};
+ghost use Rattle.comp_weight.specs.Cost.{cost_scope};
 ghost use Rattle.comp_wire.specs.Read.{FitsComponent, Reads};
 ghost use Rattle.open_scopes.specs.Refusals.{no_memory, refusal_of};
 ghost use Rattle.tree_build.specs.Cores.{cores_of};
@@ -98,6 +99,7 @@ fn write_modules<'a>(
     requires resolved { AreResolved (all_fields all.now) }
     requires writable { AreWritable (modules_of (all_fields all.now) named.now) }
     requires fits { FitsComponent (wire_scope (modules_of (all_fields all.now) named.now) scope.now) }
+    requires cost { cost_scope (wire_scope (modules_of (all_fields all.now) named.now) scope.now) < 2 ^ 32 }
     ensures reads { IfOk result (λ v. Reads v.items (wire_scope (modules_of (all_fields all.now) named.now) scope.now)) }
     ensures refused { IfErr result (λ e. e ≡ no_memory) }
 {
@@ -136,6 +138,7 @@ fn write_component<'a>(
     requires light { AreLight (modules_of (ruled_fields ruled.items) named.now) }
     requires resolved { IsResolved (scope_of (modules_of (ruled_fields ruled.items) named.now) scope.now) }
     requires fits { FitsComponent (binary_of numbered_encoding (scope_of (modules_of (ruled_fields ruled.items) named.now) scope.now)) }
+    requires cost { cost_scope (binary_of numbered_encoding (scope_of (modules_of (ruled_fields ruled.items) named.now) scope.now)) < 2 ^ 32 }
     ensures reads { IfOk result (λ w. Reads w.bytes.items (binary_of numbered_encoding (scope_of (modules_of (ruled_fields ruled.entry.items) named.now) scope.now))) }
     ensures marks { IfOk result (λ w. Shows w.origins (planned_of (modules_of (ruled_fields ruled.entry.items) named.now) scope.now)) }
     ensures recorded { IfOk result (λ w. is_some w.origins ≡ recorded) }

@@ -1,4 +1,4 @@
-use Rattle.std.proofs.Common.{◌≡◌, ◌∙◌, inl, inr, refl, sym, ap, subst, map, List, []}
+use Rattle.std.proofs.Common.{◌≡◌, ◌<◌, ◌^◌, ◌∙◌, inl, inr, refl, sym, ap, subst, map, List, []}
 use Rattle.comp_model.specs.CoreModules.{CoreModule}
 use Rattle.comp_model.specs.Model as m
 use Rattle.comp_scopes.specs.Form.{form, plan}
@@ -6,6 +6,7 @@ use Rattle.comp_scopes.specs.Resolved.{binary_of}
 use Rattle.comp_scopes.specs.Rule.{ScopeRule}
 use Rattle.comp_tree.specs.Model.{scope_of}
 use Rattle.comp_expanded.specs.IsResolved.{IsResolved}
+use Rattle.comp_weight.specs.Cost.{cost_scope}
 use Rattle.comp_wire.specs.Read.{FitsComponent}
 use Rattle.tree_build.specs.Cores.{cores_of}
 use Rattle.tree_resolve.specs.Planned.{planned_of}
@@ -13,7 +14,7 @@ use Rattle.tree_write.specs.Wire.{the_encoding}
 use Rattle.wast_component.specs.Encodable.{IsEncodable}
 use Rattle.wast_component.specs.Modules.{ruled_fields, light_module, modules_of, numbered_encoding, AreLight}
 use Rattle.wast_component.proofs.Causes.{unmet-refuses}
-use Rattle.wast_component.proofs.Chain.{form_fits, prepared, ruled_light, ruled_lent, on_ok, written_as}
+use Rattle.wast_component.proofs.Chain.{form_cost, form_fits, prepared, ruled_light, ruled_lent, on_ok, written_as}
 use Rattle.wast_component.proofs.Weighed.{all_are_light}
 use Rattle.wast_component.proofs.component.encode_component.Goals as goal
 
@@ -61,6 +62,17 @@ write_component-requires-clause-fits c =
     let rule : ScopeRule the_encoding [] s = c.in-Ok-resolve_modules.ensures.rule s k.source in
     let formed : binary_of numbered_encoding (scope_of (map light_module (cores_of c.args.cores)) new) ≡ form the_encoding [] s = subst (λ (cs : List CoreModule). binary_of numbered_encoding (scope_of cs new) ≡ form the_encoding [] s) same (c.in-Ok-resolve_modules.ensures.form s k.source) in
     subst (λ (cs : List CoreModule). FitsComponent (binary_of numbered_encoding (scope_of cs new))) (sym wrote) (subst FitsComponent (sym formed) (form_fits s c.requires.text k.light k.covered rule))
+
+pub write_component-requires-clause-cost : goal.write_component-requires-clause-cost
+write_component-requires-clause-cost c =
+    let s : m.Scope = scope_of (cores_of c.args.cores) c.args.scope.now in
+    let new = c.in-Ok-resolve_modules.resolved in
+    let lights = ruled_light c.args.cores c.in-Ok-rules_of.ruled.items c.in-Ok-light_modules.light.items c.as_slice-3.ensures.value c.as_slice-4.ensures.value c.in-Ok-light_modules.ensures c.in-Ok-rules_of.ensures.fields in
+    let same = ruled_lent c.as_slice-5.ensures.value c.as_slice-6.ensures.value lights in
+    let wrote = ruled_lent refl c.as_slice-7.ensures.value lights in
+    let k = prepared c.args.cores c.args.scope.now c.in-Ok-expand.expanded c.requires.text c.as_slice.ensures.value c.as_slice-2.ensures.value c.in-Ok.ensures.covered c.in-Ok.ensures.light c.in-Ok-expand.ensures.expands same in
+    let formed : binary_of numbered_encoding (scope_of (map light_module (cores_of c.args.cores)) new) ≡ form the_encoding [] s = subst (λ (cs : List CoreModule). binary_of numbered_encoding (scope_of cs new) ≡ form the_encoding [] s) same (c.in-Ok-resolve_modules.ensures.form s k.source) in
+    subst (λ (cs : List CoreModule). cost_scope (binary_of numbered_encoding (scope_of cs new)) < 2 ^ 32) (sym wrote) (subst (λ (b : m.Scope). cost_scope b < 2 ^ 32) (sym formed) (form_cost s c.requires.text k.light))
 
 pub returns-clause-encodable : goal.returns-clause-encodable
 returns-clause-encodable c =
