@@ -15,7 +15,7 @@ use core_write::encode_module;
 use std::alloc::{AllocError, Global};
 use tree_read::NamedModule;
 use tree_write::CoreBytes;
-use wast_parser::NameAnnotation;
+use wast_parser::{ErrorKind, NameAnnotation};
 
 /// A core module with its bytes.
 #[derive(Drop)]
@@ -55,7 +55,10 @@ fn coded_module<'t, 'a>(alloc: Global, parsed: Module<'t, 'a>) -> Result<Coded<'
     let name = annotation(parsed.label);
     match encode_module(alloc, &parsed.id, &name, parsed.fields) {
         Ok(bytes) => Ok(Coded { parsed, bytes }),
-        Err(_) => Err(AllocError),
+        Err(refusal) => match refusal.kind {
+            ErrorKind::NoMemory => Err(AllocError),
+            _ => unreachable!(),
+        },
     }
 }
 
