@@ -9,4 +9,5 @@ pub mod LightItems
 pub mod Chain
 pub mod Causes
 pub mod Texts
+pub mod LightTexts
 pub mod Exact

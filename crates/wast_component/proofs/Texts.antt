@@ -54,7 +54,7 @@ of_module (m.define ns n) h = subst (λ x. IsOfText (whole_of (m.define ns x))) 
 of_module_bytes : (d : Def) → IsBytes rows.CoreModule d → IsOfText (whole_of d)
 of_module_bytes (m.define ns n) h = subst (λ x. IsOfText (whole_of (m.define ns x))) (sym h.1) tt
 
-of_table : (d : Def) → (IsOfComponent (one_definition d) ⊎ IsOfModule (one_definition d)) → IsOfText (whole_of d)
+pub of_table : (d : Def) → (IsOfComponent (one_definition d) ⊎ IsOfModule (one_definition d)) → IsOfText (whole_of d)
 of_table d (inl h) = subst (λ x. IsOfText (whole_of x)) (sym (defs_of_one d h.0 h.1)) (elim h.2 [ inl c ↦ of_component h.0 c | inr b ↦ of_bytes h.0 b ])
 of_table d (inr h) = subst (λ x. IsOfText (whole_of x)) (sym (defs_of_one d h.0 h.1)) (elim h.2 [ inl c ↦ of_module h.0 c | inr b ↦ of_module_bytes h.0 b ])
 

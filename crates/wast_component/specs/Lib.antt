@@ -6,3 +6,4 @@ pub mod Encodable
 pub mod Answer
 pub mod Entry
 pub mod Modules
+pub mod LightPlan

@@ -19,5 +19,5 @@ mod rules;
 mod text;
 mod whole;
 
-pub use laws::spelled_once;
+pub use laws::{encodings_are_light, spelled_once};
 pub use text::{Encoded, component_binary, encode_component_text};

@@ -1,3 +1,4 @@
 pub mod Endings
 pub mod Words
 pub mod Replies
+pub mod FewMarks

@@ -1,8 +1,9 @@
 //! What a command answers: the bytes for one of the two sinks.
 
-ghost use Rattle.std.specs.Prelude.{◌≡◌, ◌≤◌, ◌++◌, ℕ, List, length, string_bytes, IfOk, IfErr, OnOk, IsErrOf, MatchResult};
+ghost use Rattle.std.specs.Prelude.{◌≡◌, ◌<◌, ◌≤◌, ◌^◌, ◌++◌, ℕ, List, length, string_bytes, IfOk, IfErr, OnOk, IsErrOf, MatchResult};
 ghost use Rattle.wast_component.specs.Answer.{text_limit, EncoderRefuses};
 ghost use Rattle.comp_wire.specs.Origins.{origins_of};
+ghost use Rattle.origin_lines.specs.Count.{marks_in};
 ghost use Rattle.byte_streams.specs.Limits.{read_limit};
 ghost use Rattle.byte_streams.specs.Outside.{Rose, ReadsFront, Reads, ReadsUntil};
 ghost use Rattle.wast_prog.specs.Command.{ReadsInput};
@@ -13,12 +14,12 @@ use binary_inputs::Told;
 use byte_streams::{ReadError, Source, read_all};
 use compose_replies::{Told as Composed, reply_to_plan};
 use list_replies::{Ask, reply_to_binary};
-use origin_lines::{count_marks, origin_lines};
+use origin_lines::{count_marks, origin_lines, plan_costs_its_marks};
 use print_replies::reply_to_print;
 use sample_text::text_of;
 use std::alloc::{AllocError, Global};
 use std::fmt::Write;
-use wast_component::{Encoded, component_binary, encode_component_text};
+use wast_component::{Encoded, component_binary, encode_component_text, encodings_are_light};
 use wast_refusals::{kind_name, refusal_line};
 use wast_tokens::{Error, MAX_TEXT};
 
@@ -200,10 +201,11 @@ fn push_number(lines: &mut String, word: &str, number: u64) -> Result<(), AllocE
 
 /// The lines with the numbers of a sample: the bytes of its text and of its binary, all its marks, and those of outer aliases.
 fn sample_lines(alloc: Global, text: &str, encoded: &Encoded) -> Result<Vec<u8>, AllocError>
+    requires few { marks_in (origins_of encoded.now.origins) < 2 ^ 64 }
     ensures { IfOk result (λ out. out.items ≡ sample_lines text.now encoded.now.bytes.items (origins_of encoded.now.origins)) }
 {
     let Some(counts) = count_marks(&encoded.origins) else {
-        return Err(AllocError);
+        unreachable!()
     };
     let mut lines = String::new(alloc);
     push_number(&mut lines, "text", text.len() as u64)?;
@@ -217,6 +219,8 @@ fn sample_lines(alloc: Global, text: &str, encoded: &Encoded) -> Result<Vec<u8>,
 fn reply_to_sample(alloc: Global, count: u32) -> Result<Reply, AllocError>
     ensures { IfOk result (λ reply. (input : List ℕ) → Replies input (Command.Sample count) reply) }
 {
+    encodings_are_light();
+    plan_costs_its_marks();
     let text = text_of(alloc, count)?;
     match encode_component_text(alloc, text.as_str(), false) {
         Ok(encoded) => Ok(Reply::Output(sample_lines(alloc, text.as_str(), &encoded)?)),

@@ -1,7 +1,11 @@
 use Rattle.std.proofs.Common.{◌∙◌}
 use Rattle.comp_wire.specs.Origins.{origins_of}
+use Rattle.wast_prog.proofs.FewMarks.{few_marks}
 use Rattle.wast_prog.proofs.Replies.{sample_done, sample_not_encoded}
 use Rattle.wast_prog.proofs.reply.reply_to_sample.Goals as goal
+
+pub sample_lines-requires : goal.sample_lines-requires
+sample_lines-requires c = record { few = few_marks c.plan_costs_its_marks.ensures (origins_of c.in-Ok.encoded.origins) (c.encodings_are_light.ensures _ _ _ _ c.in-Ok.ensures.encoding) }
 
 pub returns-in-Ok : goal.returns-in-Ok
 returns-in-Ok c input =
