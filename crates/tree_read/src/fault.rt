@@ -79,11 +79,13 @@ pub(crate) fn stored(made: Result<(), AllocError>) -> Result<(), Fault>
 
 /// Why a reader of the parser stopped.
 pub(crate) fn fault_of(refusal: Error) -> Fault
+    requires { (s : Stand) × (o : Outcome) × FailsAs refusal.kind refusal.offset s o }
     ensures { (s : Stand) (o : Outcome) → FailsAs refusal.kind refusal.offset s o → FailsBy result s o }
 {
     match refusal.kind {
         ErrorKind::Parse => Fault::Parse,
         ErrorKind::TooDeep => Fault::TooDeep,
-        _ => Fault::NoMemory,
+        ErrorKind::NoMemory => Fault::NoMemory,
+        _ => unreachable!(),
     }
 }
