@@ -40,6 +40,7 @@ pub fn bytes_of(alloc: Global, digits: &[u8]) -> Result<Vec<u8>, HexRefusal>
         Ok(bytes) => Ok(bytes),
         Err(FromHexError::OddLength) => Err(HexRefusal::At(digits.len())),
         Err(FromHexError::InvalidHexCharacter { c: _, index }) => Err(HexRefusal::At(index)),
-        Err(_) => Err(HexRefusal::NoMemory),
+        Err(FromHexError::OutOfMemory) => Err(HexRefusal::NoMemory),
+        Err(FromHexError::InvalidStringLength) => unreachable!(),
     }
 }

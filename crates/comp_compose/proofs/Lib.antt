@@ -6,6 +6,7 @@ pub mod Refusals
 pub mod Adding
 pub mod Going
 pub mod Texts
+pub mod Digits
 pub mod Passing
 pub mod Said
 mod Worked

@@ -94,6 +94,7 @@ pub fn part_bytes(alloc: Global, digits: &Word<'_>) -> Result<Vec<u8>, PlanError
         Ok(bytes) => only_part(alloc, bytes, digits),
         Err(FromHexError::OddLength) => Err(refusal_at(PlanKind::Part, digits)),
         Err(FromHexError::InvalidHexCharacter { .. }) => Err(refusal_at(PlanKind::Part, digits)),
-        Err(_) => Err(no_memory()),
+        Err(FromHexError::OutOfMemory) => Err(no_memory()),
+        Err(FromHexError::InvalidStringLength) => unreachable!(),
     }
 }
