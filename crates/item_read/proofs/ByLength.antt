@@ -1,10 +1,10 @@
 -- The leaves of a list, by how many they are.
-use Rattle.std.proofs.Common.{◌≡◌, suc, refl, ap, List, [], ◌∷◌, length, get_or, arith}
+use Rattle.std.proofs.Common.{◌≡◌, ℕ, zero, suc, ◌+◌, refl, ap, List, [], ◌∷◌, length, get_or, arith}
 use Rattle.comp_model.specs.Model.{no_leaf, ◌▸◌}
 use Rattle.wire_tree.specs.Model.{leaf_of}
 use Rattle.wire_tree.specs.Lists.{listed}
 use Rattle.wire_tree.specs.declared.tree.Leaf.{Leaf}
-use Rattle.item_read.specs.Parts.{count}
+use Rattle.item_read.specs.Parts.{count, last}
 
 pub counted_leaves : (xs : List Leaf) → count (listed xs) ≡ length xs
 counted_leaves [] = refl
@@ -28,3 +28,11 @@ module _ (d : Leaf) where
   three_leaves (x ∷ y ∷ []) e = absurd (omega (arith, e))
   three_leaves (x ∷ y ∷ z ∷ []) e = refl
   three_leaves (x ∷ y ∷ z ∷ w ∷ xs) e = absurd (omega (arith, e))
+
+  -- the last of them
+  pub last_one : (xs : List Leaf) (i : ℕ) → i + 1 ≡ length xs → leaf_of (get_or xs i d) ≡ last (listed xs)
+  last_one [] i e = absurd (omega (arith, e))
+  last_one (x ∷ []) zero e = refl
+  last_one (x ∷ []) (suc i) e = absurd (omega (arith, e))
+  last_one (x ∷ y ∷ xs) zero e = absurd (omega (arith, e))
+  last_one (x ∷ y ∷ xs) (suc i) e = last_one (y ∷ xs) i (omega (arith, e))

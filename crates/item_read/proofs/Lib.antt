@@ -6,4 +6,5 @@ mod Held
 mod LeafFits
 mod ListRows
 mod NamedEntries
+mod Options
 mod Scopes

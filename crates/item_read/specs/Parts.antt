@@ -13,6 +13,15 @@ at n no_leaf = m.absent
 at zero (l ▸ ls) = l
 at (suc n) (l ▸ ls) = at n ls
 
+-- the last leaf
+abbrev pub last_behind : Leaf → Leaves → Leaf
+last_behind l no_leaf = l
+last_behind l (k ▸ ls) = last_behind k ls
+
+abbrev pub last : Leaves → Leaf
+last no_leaf = m.absent
+last (l ▸ ls) = last_behind l ls
+
 abbrev pub Nothing : Leaves → Type 0
 Nothing ls = ls ≡ no_leaf
 

@@ -130,69 +130,90 @@ ListedTypeLeaves _ = λ ls. ⊥
 abbrev pub IsListedType : Node → Type 0
 IsListedType (row u ls) = ListedTypeLeaves u ls
 
--- a canonical function without options
+-- a canonical function that is named alone
+abbrev pub BuiltIn : Row → Type 0
+BuiltIn rows.TaskCancel = Unit {0}
+BuiltIn rows.SubtaskDrop = Unit {0}
+BuiltIn rows.ErrorContextDrop = Unit {0}
+BuiltIn rows.WaitableSetNew = Unit {0}
+BuiltIn rows.WaitableSetDrop = Unit {0}
+BuiltIn rows.WaitableJoin = Unit {0}
+BuiltIn rows.BackpressureInc = Unit {0}
+BuiltIn rows.BackpressureDec = Unit {0}
+BuiltIn rows.ThreadAvailableParallelism = Unit {0}
+BuiltIn _ = ⊥
+
+abbrev pub IsBuiltIn : Node → Type 0
+IsBuiltIn (row u ls) = BuiltIn u × Nothing ls
+
+-- a canonical function of a type
+abbrev pub OfType : Row → Type 0
+OfType rows.ResourceNew = Unit {0}
+OfType rows.ResourceDrop = Unit {0}
+OfType rows.ResourceRep = Unit {0}
+OfType rows.StreamNew = Unit {0}
+OfType rows.StreamDropReadable = Unit {0}
+OfType rows.StreamDropWritable = Unit {0}
+OfType rows.FutureNew = Unit {0}
+OfType rows.FutureDropReadable = Unit {0}
+OfType rows.FutureDropWritable = Unit {0}
+OfType _ = ⊥
+
+abbrev pub IsOfType : Node → Type 0
+IsOfType (row u ls) = OfType u × One (IsIndex space.Ty) ls
+
+-- another canonical function without options
 abbrev pub CanonLeaves : Row → Leaves → Type 0
-CanonLeaves rows.ResourceNew = One (IsIndex space.Ty)
-CanonLeaves rows.ResourceDrop = One (IsIndex space.Ty)
-CanonLeaves rows.ResourceRep = One (IsIndex space.Ty)
-CanonLeaves rows.TaskCancel = Nothing
 CanonLeaves rows.SubtaskCancel = One IsFlag
 CanonLeaves rows.ContextGet = Two IsCoreValue IsNumber
 CanonLeaves rows.ContextSet = Two IsCoreValue IsNumber
-CanonLeaves rows.SubtaskDrop = Nothing
-CanonLeaves rows.StreamNew = One (IsIndex space.Ty)
 CanonLeaves rows.StreamCancelRead = Two (IsIndex space.Ty) IsFlag
 CanonLeaves rows.StreamCancelWrite = Two (IsIndex space.Ty) IsFlag
-CanonLeaves rows.StreamDropReadable = One (IsIndex space.Ty)
-CanonLeaves rows.StreamDropWritable = One (IsIndex space.Ty)
-CanonLeaves rows.FutureNew = One (IsIndex space.Ty)
 CanonLeaves rows.FutureCancelRead = Two (IsIndex space.Ty) IsFlag
 CanonLeaves rows.FutureCancelWrite = Two (IsIndex space.Ty) IsFlag
-CanonLeaves rows.FutureDropReadable = One (IsIndex space.Ty)
-CanonLeaves rows.FutureDropWritable = One (IsIndex space.Ty)
-CanonLeaves rows.ErrorContextDrop = Nothing
-CanonLeaves rows.WaitableSetNew = Nothing
-CanonLeaves rows.WaitableSetDrop = Nothing
-CanonLeaves rows.WaitableJoin = Nothing
-CanonLeaves rows.BackpressureInc = Nothing
-CanonLeaves rows.BackpressureDec = Nothing
 CanonLeaves rows.ThreadSpawnRef = One (IsIndex space.CoreType)
 CanonLeaves rows.ThreadSpawnIndirect = Two (IsIndex space.CoreType) (IsIndex space.CoreTable)
-CanonLeaves rows.ThreadAvailableParallelism = Nothing
 CanonLeaves _ = λ ls. ⊥
 
 abbrev pub IsCanon : Node → Type 0
 IsCanon (row u ls) = CanonLeaves u ls
 
 -- a canonical function with options
-abbrev pub OptionedLeaves : Row → Leaves → Type 0
-OptionedLeaves rows.Lift = Three (IsIndex space.Ty) (IsIndex space.CoreFunc) (IsList IsOption)
-OptionedLeaves rows.Lower = Two (IsIndex space.Func) (IsList IsOption)
-OptionedLeaves rows.TaskReturn = Two (IsOptional IsValue) (IsList IsOption)
-OptionedLeaves rows.StreamRead = Two (IsIndex space.Ty) (IsList IsOption)
-OptionedLeaves rows.StreamWrite = Two (IsIndex space.Ty) (IsList IsOption)
-OptionedLeaves rows.FutureRead = Two (IsIndex space.Ty) (IsList IsOption)
-OptionedLeaves rows.FutureWrite = Two (IsIndex space.Ty) (IsList IsOption)
-OptionedLeaves rows.ErrorContextNew = One (IsList IsOption)
-OptionedLeaves rows.ErrorContextDebugMessage = One (IsList IsOption)
-OptionedLeaves _ = λ ls. ⊥
+abbrev pub WithOptionsLeaves : Row → Leaves → Type 0
+WithOptionsLeaves rows.Lift = Three (IsIndex space.Ty) (IsIndex space.CoreFunc) (IsList IsOption)
+WithOptionsLeaves rows.Lower = Two (IsIndex space.Func) (IsList IsOption)
+WithOptionsLeaves rows.TaskReturn = Two (IsOptional IsValue) (IsList IsOption)
+WithOptionsLeaves rows.StreamRead = Two (IsIndex space.Ty) (IsList IsOption)
+WithOptionsLeaves rows.StreamWrite = Two (IsIndex space.Ty) (IsList IsOption)
+WithOptionsLeaves rows.FutureRead = Two (IsIndex space.Ty) (IsList IsOption)
+WithOptionsLeaves rows.FutureWrite = Two (IsIndex space.Ty) (IsList IsOption)
+WithOptionsLeaves rows.ErrorContextNew = One (IsList IsOption)
+WithOptionsLeaves rows.ErrorContextDebugMessage = One (IsList IsOption)
+WithOptionsLeaves _ = λ ls. ⊥
 
-abbrev pub IsOptioned : Node → Type 0
-IsOptioned (row u ls) = OptionedLeaves u ls
+abbrev pub IsWithOptions : Node → Type 0
+IsWithOptions (row u ls) = WithOptionsLeaves u ls
 
--- another definition that holds no list and no scope
+-- another definition of a component that holds no list and no scope
 abbrev pub PlainLeaves : Row → Leaves → Type 0
 PlainLeaves rows.CoreModule = One IsModule
 PlainLeaves rows.Import = Two IsText (IsRow IsDescription)
 PlainLeaves rows.Export = Three IsText (IsOptional (IsRow IsDescription)) IsItem
 PlainLeaves rows.Custom = Two IsText IsText
-PlainLeaves rows.ExportType = Two IsText (IsRow IsDescription)
-PlainLeaves rows.ModuleImport = Three IsText IsText (IsRow IsEntity)
-PlainLeaves rows.ModuleExport = Two IsText (IsRow IsEntity)
 PlainLeaves _ = λ ls. ⊥
 
 abbrev pub IsPlain : Node → Type 0
 IsPlain (row u ls) = PlainLeaves u ls
+
+-- another that is a declaration of a type alone
+abbrev pub DeclaredLeaves : Row → Leaves → Type 0
+DeclaredLeaves rows.ExportType = Two IsText (IsRow IsDescription)
+DeclaredLeaves rows.ModuleImport = Three IsText IsText (IsRow IsEntity)
+DeclaredLeaves rows.ModuleExport = Two IsText (IsRow IsEntity)
+DeclaredLeaves _ = λ ls. ⊥
+
+abbrev pub IsDeclared : Node → Type 0
+IsDeclared (row u ls) = DeclaredLeaves u ls
 
 -- another that holds a list
 abbrev pub ListedLeaves : Row → Leaves → Type 0

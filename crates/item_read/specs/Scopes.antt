@@ -10,9 +10,40 @@ use Rattle.comp_wire.specs.Spelled.{FitsDefinitions, FitsDeclarations, declarati
 use Rattle.item_read.specs.declared.kinds.Kind.{Kind}
 use Rattle.item_read.specs.declared.kinds.Kind.TheVariants as kind
 use Rattle.item_read.specs.Parts.{count, at}
-use Rattle.item_read.specs.Rows.{IsAlias, IsCoreType, IsType, IsListedType, IsCanon, IsOptioned, IsPlain, IsListed}
+use Rattle.item_read.specs.Rows.{IsAlias, IsCoreType, IsType, IsListedType, IsBuiltIn, IsOfType, IsCanon, IsWithOptions, IsPlain, IsDeclared, IsListed}
 
--- the kind of a definition, by its row
+-- the kind of a canonical function, by its row
+abbrev pub kind_of_canon : Row → Kind
+kind_of_canon rows.TaskCancel = kind.BuiltIn
+kind_of_canon rows.SubtaskDrop = kind.BuiltIn
+kind_of_canon rows.ErrorContextDrop = kind.BuiltIn
+kind_of_canon rows.WaitableSetNew = kind.BuiltIn
+kind_of_canon rows.WaitableSetDrop = kind.BuiltIn
+kind_of_canon rows.WaitableJoin = kind.BuiltIn
+kind_of_canon rows.BackpressureInc = kind.BuiltIn
+kind_of_canon rows.BackpressureDec = kind.BuiltIn
+kind_of_canon rows.ThreadAvailableParallelism = kind.BuiltIn
+kind_of_canon rows.ResourceNew = kind.OfType
+kind_of_canon rows.ResourceDrop = kind.OfType
+kind_of_canon rows.ResourceRep = kind.OfType
+kind_of_canon rows.StreamNew = kind.OfType
+kind_of_canon rows.StreamDropReadable = kind.OfType
+kind_of_canon rows.StreamDropWritable = kind.OfType
+kind_of_canon rows.FutureNew = kind.OfType
+kind_of_canon rows.FutureDropReadable = kind.OfType
+kind_of_canon rows.FutureDropWritable = kind.OfType
+kind_of_canon rows.Lift = kind.WithOptions
+kind_of_canon rows.Lower = kind.WithOptions
+kind_of_canon rows.TaskReturn = kind.WithOptions
+kind_of_canon rows.StreamRead = kind.WithOptions
+kind_of_canon rows.StreamWrite = kind.WithOptions
+kind_of_canon rows.FutureRead = kind.WithOptions
+kind_of_canon rows.FutureWrite = kind.WithOptions
+kind_of_canon rows.ErrorContextNew = kind.WithOptions
+kind_of_canon rows.ErrorContextDebugMessage = kind.WithOptions
+kind_of_canon _ = kind.Canon
+
+-- the kind of a definition, by its row: one of no other kind counts as a canonical function
 abbrev pub kind_of_row : Row → Kind
 kind_of_row rows.CoreFunctionType = kind.CoreType
 kind_of_row rows.CoreRec = kind.CoreType
@@ -35,22 +66,13 @@ kind_of_row rows.TupleType = kind.ListedType
 kind_of_row rows.FlagsType = kind.ListedType
 kind_of_row rows.EnumType = kind.ListedType
 kind_of_row rows.FunctionType = kind.ListedType
-kind_of_row rows.Lift = kind.Optioned
-kind_of_row rows.Lower = kind.Optioned
-kind_of_row rows.TaskReturn = kind.Optioned
-kind_of_row rows.StreamRead = kind.Optioned
-kind_of_row rows.StreamWrite = kind.Optioned
-kind_of_row rows.FutureRead = kind.Optioned
-kind_of_row rows.FutureWrite = kind.Optioned
-kind_of_row rows.ErrorContextNew = kind.Optioned
-kind_of_row rows.ErrorContextDebugMessage = kind.Optioned
 kind_of_row rows.CoreModule = kind.Plain
 kind_of_row rows.Import = kind.Plain
 kind_of_row rows.Export = kind.Plain
 kind_of_row rows.Custom = kind.Plain
-kind_of_row rows.ExportType = kind.Plain
-kind_of_row rows.ModuleImport = kind.Plain
-kind_of_row rows.ModuleExport = kind.Plain
+kind_of_row rows.ExportType = kind.Declared
+kind_of_row rows.ModuleImport = kind.Declared
+kind_of_row rows.ModuleExport = kind.Declared
 kind_of_row rows.CoreInstantiate = kind.Listed
 kind_of_row rows.CoreBundle = kind.Listed
 kind_of_row rows.Instantiate = kind.Listed
@@ -60,7 +82,7 @@ kind_of_row rows.Component = kind.Scope
 kind_of_row rows.ComponentType = kind.Scope
 kind_of_row rows.InstanceType = kind.Scope
 kind_of_row rows.ModuleType = kind.Scope
-kind_of_row _ = kind.Canon
+kind_of_row u = kind_of_canon u
 
 -- what the definitions of a scope of this kind are, by the table of bytes
 abbrev pub DefsFit : ScopeKind → Defs → Type 0
@@ -100,9 +122,12 @@ IsOfKind kind.CoreType = IsCoreType
 IsOfKind kind.Alias = IsAlias
 IsOfKind kind.Ty = IsType
 IsOfKind kind.ListedType = IsListedType
+IsOfKind kind.BuiltIn = IsBuiltIn
+IsOfKind kind.OfType = IsOfType
 IsOfKind kind.Canon = IsCanon
-IsOfKind kind.Optioned = IsOptioned
+IsOfKind kind.WithOptions = IsWithOptions
 IsOfKind kind.Plain = IsPlain
+IsOfKind kind.Declared = IsDeclared
 IsOfKind kind.Listed = IsListed
 IsOfKind kind.Scope = HoldsOne
 

@@ -3,7 +3,7 @@
 ghost use Rattle.std.specs.Prelude.{◌≡◌, IfOk};
 ghost use Rattle.wire_tree.specs.Lists.{node_of};
 ghost use Rattle.item_tree.specs.Model.{item_row};
-ghost use Rattle.item_read.specs.Rows.{IsListed, IsPlain};
+ghost use Rattle.item_read.specs.Rows.{IsDeclared, IsListed, IsPlain};
 
 use crate::entries::entries;
 use crate::leaves::{index, item, module, results, text};
@@ -16,7 +16,7 @@ use item_tree::Item;
 use std::alloc::{AllocError, Global};
 use wire_tree::Node;
 
-/// The definition without a list that a node is.
+/// The definition of a component, without a list, that a node is.
 pub fn plain_item_of<'a>(node: &Node<'_, 'a>) -> Item<'a>
     requires { IsPlain (node_of node.now) }
     ensures { item_row result ≡ node_of node.now }
@@ -47,6 +47,16 @@ pub fn plain_item_of<'a>(node: &Node<'_, 'a>) -> Item<'a>
                 payload: text(payload),
             }
         }
+        _ => unreachable!(),
+    }
+}
+
+/// The declaration of a type alone that a node is.
+pub fn declaration_of<'a>(node: &Node<'_, 'a>) -> Item<'a>
+    requires { IsDeclared (node_of node.now) }
+    ensures { item_row result ≡ node_of node.now }
+{
+    match node.row {
         Row::ExportType => {
             let (name, ty) = two(node.leaves);
             Item::ExportDecl {

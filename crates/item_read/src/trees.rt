@@ -9,9 +9,9 @@ ghost use Rattle.item_tree.specs.Model.{item_row, scope_of_tree, defs_listed as 
 ghost use Rattle.item_read.specs.Scopes.{AreDefinitions, HoldsOne, HoldsScope, IsDefinition, ScopeFits, held_kind};
 
 use crate::aliases::alias_of;
-use crate::canons::{canon_of, optioned_canon_of};
+use crate::canons::{built_in_of, canon_of, canon_with_options_of, type_canon_of};
 use crate::core_types::core_type_of;
-use crate::items::{listed_item_of, plain_item_of};
+use crate::items::{declaration_of, listed_item_of, plain_item_of};
 use crate::kinds::{Kind, kind_of};
 use crate::types::{listed_type_of, type_of};
 use comp_model::Row;
@@ -68,12 +68,15 @@ fn item_of<'a>(alloc: Global, node: &Node<'_, 'a>) -> Result<Item<'a>, AllocErro
             let found = listed_type_of(alloc, node)?;
             Ok(Item::Ty(found))
         }
+        Kind::BuiltIn => Ok(Item::Canon(built_in_of(node))),
+        Kind::OfType => Ok(Item::Canon(type_canon_of(node))),
         Kind::Canon => Ok(Item::Canon(canon_of(node))),
-        Kind::Optioned => {
-            let found = optioned_canon_of(alloc, node)?;
+        Kind::WithOptions => {
+            let found = canon_with_options_of(alloc, node)?;
             Ok(Item::Canon(found))
         }
         Kind::Plain => Ok(plain_item_of(node)),
+        Kind::Declared => Ok(declaration_of(node)),
         Kind::Listed => listed_item_of(alloc, node),
         Kind::Scope => holder_of(alloc, node),
     }
