@@ -1,3 +1,4 @@
+pub mod Given
 mod LeafFits
 mod Leaving
 mod Reading

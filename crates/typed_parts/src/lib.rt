@@ -4,6 +4,8 @@
 #![tactic(auto)]
 
 pub mod laws;
+mod read;
 mod typed;
 
+pub use read::read_leaves;
 pub use typed::{OfLeaves, parse_leaves};
