@@ -10,8 +10,11 @@ ghost use Rattle.text_rules.specs.CanonRules.{options};
 ghost use Rattle.text_rules.specs.Rule.{reads};
 ghost use Rattle.text_table.specs.Code.{rule_of};
 ghost use Rattle.typed_parts.specs.Leaves.{left_by};
+ghost use Rattle.wast_grammar.specs.CanonRows.{is_option};
+ghost use Rattle.wast_grammar.specs.Grammar.{holds};
 ghost use Rattle.wast_grammar.specs.Read.{read};
 ghost use Rattle.wast_parser.specs.Standing.{ComesBy};
+ghost use Rattle.wast_parser.specs.View.{stand_of};
 ghost use Rattle.comp_items.specs.Options.{option_node, options_leaf};
 
 use crate::core_items::CoreItemRef;
@@ -19,11 +22,12 @@ use bumpalo::Bump;
 use comp_model::Row;
 use comp_tree::{Leaf, Node};
 use std::alloc::{AllocError, Global};
-use text_table::canons::OPTIONS;
+use text_table::canons::{IS_OPTION, OPTIONS};
+use text_table::holds_at;
 use text_table::rule::Rule;
 use typed_nodes::{OfNode, node, node_of_part, one_from, one_into};
 use typed_parts::{OfLeaves, parse_leaves};
-use wast_parser::{Error, Parser, kw};
+use wast_parser::{Cursor, Error, Parser, Peek, kw};
 
 /// An option of a canonical function.
 #[derive(Drop)]
@@ -147,6 +151,25 @@ impl<'a> OfNode<'a> for CanonOpt<'a> {
             )?)),
             _ => unreachable!(),
         }
+    }
+}
+
+/// A word of an option is next, or `(` and a word that begins a group of one.
+impl Peek for CanonOpt<'_> {
+    ghost use Rattle.std.specs.Prelude.{refl};
+
+    ghost test = { is_option };
+
+    ghost is_short = { refl };
+
+    fn peek(cursor: Cursor<'_>) -> bool
+        ensures holds { result ≡ holds is_option (stand_of cursor.entry) }
+    {
+        holds_at(IS_OPTION, cursor)
+    }
+
+    fn display() -> &'static str {
+        "a canonical option"
     }
 }
 
