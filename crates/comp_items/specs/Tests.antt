@@ -1,5 +1,5 @@
 -- Tests of the next tokens that tell a reference (Component Model, Explainer.md, Alias Definitions).
-use Rattle.std.specs.Prelude.{◌≡◌, [], ◌∷◌, true, refl, codes}
+use Rattle.std.specs.Prelude.{[], ◌∷◌, codes}
 use Rattle.comp_model.specs.declared.Space.{Space}
 use Rattle.text_rules.specs.ReferenceRules.{space_word}
 use Rattle.wast_grammar.specs.Classes.{keyword}

@@ -1,5 +1,5 @@
 -- From leaves that were read to the value that is made of them, for a rule that equals one with known shapes.
-use Rattle.std.proofs.Common.{◌≡◌, ℕ, true, List, sym, ap, ◌∙◌, subst}
+use Rattle.std.proofs.Common.{◌≡◌, ℕ, true, List, sym, ◌∙◌, subst}
 use Rattle.comp_model.specs.CoreModules.{CoreModule}
 use Rattle.comp_model.specs.Model.{Leaves}
 use Rattle.comp_model.specs.Rows.{Shape}

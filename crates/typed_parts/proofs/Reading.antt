@@ -62,10 +62,13 @@ module _ (sorted : LeavesSorts) (named : NamesOfText) (line : Rule) (ss : List S
 -- the leaves among what was read by a rule are those that it leaves
 pub leaves_read : LeavesSorts → NamesOfText → (r : Rule) → sound (reads r) ≡ true → (s t : Stand) (x : LeftParts) → WasRead r x s t
     → (v : Value) × (read (reads r) s ≡ is_read v t) × AreLeavesOf r v x.leaves.items
-leaves_read sorted named r ok s t x h =
-    (h.0, h.1, λ ss good.
-        let d = read_sound (reads r) s t h.0 ok h.1 in
-        let fit = line_fits sorted named r ss good s t h.0 d.0 in
-        let b = and_true (all r (λ p. fits_leaves p.leaves ss)) (list_all (λ q. not (is_module q)) ss) (and_true (is_fresh (reads r)) _ good).1 in
-        let same = ap (λ a. leaves_from a.leaves) h.2 in
-        (cores_of x.cores, sym (same ∙ loose_listed (fields_read x.cores) (cores_of x.cores) x.leaves.items ss b.1 (subst (λ q. FitLeaves ss q) same fit).0), fit))
+leaves_read sorted named r ok s t x h = (
+  h.0,
+  h.1,
+  λ ss good.
+      let d = read_sound (reads r) s t h.0 ok h.1 in
+      let fit = line_fits sorted named r ss good s t h.0 d.0 in
+      let b = and_true (all r (λ p. fits_leaves p.leaves ss)) (list_all (λ q. not (is_module q)) ss) (and_true (is_fresh (reads r)) _ good).1 in
+      let same = ap (λ a. leaves_from a.leaves) h.2 in
+      (cores_of x.cores, sym (same ∙ loose_listed (fields_read x.cores) (cores_of x.cores) x.leaves.items ss b.1 (subst (λ q. FitLeaves ss q) same fit).0), fit),
+)

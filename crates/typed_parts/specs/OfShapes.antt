@@ -1,5 +1,5 @@
 -- Which rules leave leaves of some shapes, one each, and nothing else among them: a test that computes.
-use Rattle.std.specs.Prelude.{◌≡◌, Bool, true, false, ◌&&◌, not, nat_le, List}
+use Rattle.std.specs.Prelude.{◌≡◌, Bool, true, ◌&&◌, not, nat_le, List}
 use Rattle.std.specs.List.{list_all}
 use Rattle.comp_model.specs.Rows.{Shape, is_module}
 use Rattle.wast_grammar.specs.Clear.{clear}
