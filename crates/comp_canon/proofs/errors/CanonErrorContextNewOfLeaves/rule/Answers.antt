@@ -1,0 +1,6 @@
+use Rattle.std.proofs.Common.{refl}
+use Rattle.comp_canon.specs.Lines.{error_context_new}
+use Rattle.comp_canon.proofs.errors.CanonErrorContextNewOfLeaves.rule.Goals as goal
+
+pub returns : goal.returns
+returns c = c.built_in.ensures error_context_new refl

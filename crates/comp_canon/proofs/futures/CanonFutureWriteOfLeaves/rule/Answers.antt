@@ -1,0 +1,6 @@
+use Rattle.std.proofs.Common.{refl}
+use Rattle.comp_canon.specs.Lines.{future_write}
+use Rattle.comp_canon.proofs.futures.CanonFutureWriteOfLeaves.rule.Goals as goal
+
+pub returns : goal.returns
+returns c = c.built_in.ensures future_write refl

@@ -1,0 +1,6 @@
+use Rattle.std.proofs.Common.{refl}
+use Rattle.comp_canon.specs.Lines.{stream_forward}
+use Rattle.comp_canon.proofs.streams.CanonStreamForwardOfLeaves.rule.Goals as goal
+
+pub returns : goal.returns
+returns c = c.built_in.ensures stream_forward refl

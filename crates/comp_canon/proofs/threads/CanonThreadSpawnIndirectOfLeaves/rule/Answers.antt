@@ -1,0 +1,6 @@
+use Rattle.std.proofs.Common.{refl}
+use Rattle.comp_canon.specs.Lines.{thread_spawn_indirect}
+use Rattle.comp_canon.proofs.threads.CanonThreadSpawnIndirectOfLeaves.rule.Goals as goal
+
+pub returns : goal.returns
+returns c = c.built_in.ensures thread_spawn_indirect refl
