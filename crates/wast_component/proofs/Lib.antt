@@ -6,6 +6,7 @@ pub mod Weighed
 pub mod Encodings
 pub mod Cores
 pub mod LightItems
+pub mod Small
 pub mod Chain
 pub mod Causes
 pub mod Texts

@@ -1,6 +1,6 @@
 //! The encoding of a component by its tree: measured, expanded, resolved and written.
 
-ghost use Rattle.std.specs.Prelude.{◌≡◌, ◌≤◌, ◌<◌, ◌^◌, ◌⊎◌, List, [], None, Some, is_some, map, option_map, IfOk, IfErr, OnOk};
+ghost use Rattle.std.specs.Prelude.{◌≡◌, ◌≤◌, ◌-◌, ◌*◌, ◌<◌, ◌^◌, ◌⊎◌, List, [], None, Some, is_some, map, option_map, IfOk, IfErr, OnOk};
 ghost use Rattle.comp_model.specs.CoreModules.{CoreModule};
 ghost use Rattle.comp_model.specs.Model.{Scope as ModelScope};
 ghost use Rattle.comp_expanded.specs.IsResolved.{IsResolved};
@@ -14,6 +14,7 @@ ghost use Rattle.comp_weight.specs.Cost.{cost_scope};
 ghost use Rattle.comp_wire.specs.Read.{FitsComponent, Reads};
 ghost use Rattle.open_scopes.specs.Refusals.{no_memory, refusal_of};
 ghost use Rattle.tree_build.specs.Cores.{cores_of};
+ghost use Rattle.tree_names.specs.Size.{size_of_scope};
 ghost use Rattle.tree_resolve.specs.Planned.{planned_of};
 ghost use Rattle.tree_resolve.specs.Source.{IsSource};
 ghost use Rattle.tree_write.specs.Wire.{the_encoding, wire_scope};
@@ -74,6 +75,7 @@ fn resolve_modules<'a>(
 ) -> Result<Scope<'a, 'a>, Error>
     requires ruled { AreRuled all.now }
     requires source { (s : ModelScope) × IsSource s (scope_of (modules_of (ruled_fields all.now) named.now) scope.now) (marks_of (modules_of (ruled_fields all.now) named.now) scope.now) }
+    requires small { 2 * size_of_scope (scope_of (modules_of (ruled_fields all.now) named.now) scope.now) < 2 ^ 32 - 2 }
     ensures rule { OnOk result ((s : ModelScope) → IsSource s (scope_of (modules_of (ruled_fields all.now) named.now) scope.now) (marks_of (modules_of (ruled_fields all.now) named.now) scope.now) → ScopeRule the_encoding [] s) }
     ensures form { IfOk result (λ new. (s : ModelScope) → IsSource s (scope_of (modules_of (ruled_fields all.now) named.now) scope.now) (marks_of (modules_of (ruled_fields all.now) named.now) scope.now) → binary_of numbered_encoding (scope_of (modules_of (ruled_fields all.now) named.now) new) ≡ form the_encoding [] s) }
     ensures plan { IfOk result (λ new. (s : ModelScope) → IsSource s (scope_of (modules_of (ruled_fields all.now) named.now) scope.now) (marks_of (modules_of (ruled_fields all.now) named.now) scope.now) → planned_of (modules_of (ruled_fields all.now) named.now) new ≡ plan the_encoding [] s) }

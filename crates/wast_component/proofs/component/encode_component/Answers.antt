@@ -15,6 +15,8 @@ use Rattle.wast_component.specs.Encodable.{IsEncodable}
 use Rattle.wast_component.specs.Modules.{ruled_fields, light_module, modules_of, numbered_encoding, AreLight}
 use Rattle.wast_component.proofs.Causes.{unmet-refuses}
 use Rattle.wast_component.proofs.Chain.{form_cost, form_fits, prepared, ruled_light, ruled_lent, on_ok, written_as}
+use Rattle.core_model.specs.Weight.{module_weight}
+use Rattle.wast_component.proofs.Small.{expansion_has_room}
 use Rattle.wast_component.proofs.Weighed.{all_are_light}
 use Rattle.wast_component.proofs.component.encode_component.Goals as goal
 
@@ -24,6 +26,13 @@ resolve_modules-requires-clause-source c =
     let same = ruled_lent c.as_slice-5.ensures.value c.as_slice-6.ensures.value lights in
     let k = prepared c.args.cores c.args.scope.now c.in-Ok-expand.expanded c.requires.text c.as_slice.ensures.value c.as_slice-2.ensures.value c.in-Ok.ensures.covered c.in-Ok.ensures.light c.in-Ok-expand.ensures.expands same in
     (_, k.source)
+
+pub resolve_modules-requires-clause-small : goal.resolve_modules-requires-clause-small
+resolve_modules-requires-clause-small c =
+    let lights = ruled_light c.args.cores c.in-Ok-rules_of.ruled.items c.in-Ok-light_modules.light.items c.as_slice-3.ensures.value c.as_slice-4.ensures.value c.in-Ok-light_modules.ensures c.in-Ok-rules_of.ensures.fields in
+    let same = ruled_lent c.as_slice-5.ensures.value c.as_slice-6.ensures.value lights in
+    let k = prepared c.args.cores c.args.scope.now c.in-Ok-expand.expanded c.requires.text c.as_slice.ensures.value c.as_slice-2.ensures.value c.in-Ok.ensures.covered c.in-Ok.ensures.light c.in-Ok-expand.ensures.expands same in
+    expansion_has_room module_weight _ _ _ k.source.rowed k.source.of_text k.source.expands k.light
 
 pub returns-in-Err-resolve_modules-clause-refused :
     goal.returns-in-Err-resolve_modules-clause-refused
