@@ -40,12 +40,7 @@ pub(crate) fn path_allowed(space: Space) -> bool
 }
 
 /// Passes the aliases of a path to an item of a space, for which there are indices below 2^32 - 1.
-pub(crate) fn count_steps(
-    space: Space,
-    root: Index<'_>,
-    exports: &[&str],
-    counters: &mut Counters,
-)
+pub(crate) fn count_steps(space: Space, root: Index<'_>, exports: &[&str], counters: &mut Counters)
     requires sized { length counters.old ≡ 13 }
     requires some { 0 < length exports.now }
     requires room { CountersHaveRoom counters.old (length exports.now) }

@@ -104,8 +104,12 @@ names_in (one_def (define ns (row t ls)) ds) = length ns.exports + names_in ds
 exports-few : (g : Naming) (k : ℕ) (ds : Defs) → entries (expand_exports g k ds) ≤ 4 * names_in ds
 exports-few g k no_def = omega arith
 exports-few g k (one_def (define ns (row t ls)) ds) =
-    omega (arith, entries-append (expand_exports_of (the_id (first_id ns.ids (given g (written k)))) k 0 ns.exports (declares_row t ls)) (expand_exports g (k + 1) ds),
-      exports-of-few (the_id (first_id ns.ids (given g (written k)))) k 0 ns.exports (declares_row t ls), exports-few g (k + 1) ds)
+    omega (
+      arith,
+      entries-append (expand_exports_of (the_id (first_id ns.ids (given g (written k)))) k 0 ns.exports (declares_row t ls)) (expand_exports g (k + 1) ds),
+      exports-of-few (the_id (first_id ns.ids (given g (written k)))) k 0 ns.exports (declares_row t ls),
+      exports-few g (k + 1) ds,
+    )
 
 inline-few : (g : Naming) (c : Scope) (k u : ℕ) (s : Space) (t : Row) (o : Option Origin) (a : Expanded Leaves) → whole size_of_leaf (expand_inline g c k u s t o a) ≤ whole size_of_leaves a + 2
 inline-few g c k u s t (Some o) a = omega arith
@@ -161,16 +165,24 @@ mutual
   pub nodes-few : (g : Naming) (c : Scope) (o : Origin) (k u : ℕ) (ns : Nodes) → whole size_of_nodes (expand_nodes g c o k u ns) ≤ 4 * size_of_nodes ns
   nodes-few g c o k u no_node = omega arith
   nodes-few g c o k u (one_node (row t ls) ns) =
-      omega (arith, nodes-both (λ bs ks. one_node (row t bs) ks) (λ bs ks. refl) (expand_leaves g c o k u ls) (expand_nodes g c o k (u + references ls) ns),
-        leaves-few g c o k u ls, nodes-few g c o k (u + references ls) ns)
+      omega (
+        arith,
+        nodes-both (λ bs ks. one_node (row t bs) ks) (λ bs ks. refl) (expand_leaves g c o k u ls) (expand_nodes g c o k (u + references ls) ns),
+        leaves-few g c o k u ls,
+        nodes-few g c o k (u + references ls) ns,
+      )
 
   -- with the exports, of which there are as many as inline export names
   pub defs-few : (g : Naming) (c : Scope) (k : ℕ) (ds : Defs) → entries (expand_defs g c k ds) + 4 * names_in ds ≤ 4 * size_of_defs ds
   defs-few g c k no_def = omega arith
   defs-few g c k (one_def (define ns (row t ls)) ds) =
-      omega (arith, entries-append (Expansion.expand_one (written k) (Expansion.given_names ns (given g (written k))) t (expand_leaves g c (written k) k 0 ls)) (expand_defs g c (k + 1) ds),
+      omega (
+        arith,
+        entries-append (Expansion.expand_one (written k) (Expansion.given_names ns (given g (written k))) t (expand_leaves g c (written k) k 0 ls)) (expand_defs g c (k + 1) ds),
         one-few (written k) (Expansion.given_names ns (given g (written k))) t (expand_leaves g c (written k) k 0 ls),
-        leaves-few g c (written k) k 0 ls, defs-few g c (k + 1) ds)
+        leaves-few g c (written k) k 0 ls,
+        defs-few g c (k + 1) ds,
+      )
 
 -- the expansion under given ids
 pub expand_is_small : (g : Naming) (s : Scope) → size_of_scope (expand g s) ≤ 4 * size_of_scope s

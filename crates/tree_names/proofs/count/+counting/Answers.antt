@@ -30,14 +30,34 @@ count_leaf-count_nodes-requires t c =
 pub count_leaves-count_leaf-requires : goal.count_leaves-count_leaf-requires
 count_leaves-count_leaf-requires t c =
     let less = leaf_below c.args.leaves.now c.loop-leaf.leaf-index c.leaf-item.result c.loop-leaf-test.true c.leaf-item.is in
-    let left = drop_more c.args.leaves.now c.loop-leaf.leaf-index _ c.loop-leaf-test.true ∙ ap (λ z. z ∷ drop (c.loop-leaf.leaf-index + 1) c.args.leaves.now) (sym c.leaf-item.is) in
-    (omega (arith, less, c.decreases), (c.requires.few, (c.loop-leaf.invariant.0, ((c.requires.expanded.0, leaf_expanded_at c.requires.expanded.0 c.args.leaves.now c.loop-leaf.leaf-index c.leaf-item.result c.requires.expanded.1 c.loop-leaf-test.true c.leaf-item.is),
-    (c.requires.room.0, sums_first c.requires.room.0 _ _ c.leaf-item.result left (c.loop-leaf.invariant.3 c.requires.room.0 c.requires.room.1))))))
+    let left = drop_more c.args.leaves.now c.loop-leaf.leaf-index _ c.loop-leaf-test.true ∙ ap (λ z. z ∷ drop (c.loop-leaf.leaf-index + 1) c.args.leaves.now) (sym c.leaf-item.is) in (
+      omega (arith, less, c.decreases),
+      (
+        c.requires.few,
+        (
+          c.loop-leaf.invariant.0,
+          (
+            (c.requires.expanded.0, leaf_expanded_at c.requires.expanded.0 c.args.leaves.now c.loop-leaf.leaf-index c.leaf-item.result c.requires.expanded.1 c.loop-leaf-test.true c.leaf-item.is),
+            (c.requires.room.0, sums_first c.requires.room.0 _ _ c.leaf-item.result left (c.loop-leaf.invariant.3 c.requires.room.0 c.requires.room.1)),
+          ),
+        ),
+      ),
+    )
 
 pub count_nodes-count_leaves-requires : goal.count_nodes-count_leaves-requires
-count_nodes-count_leaves-requires t c =
-    (leaves_fall c.args.nodes.now c.loop-node.node-index _ t c.decreases c.loop-node-test.true, (c.requires.few, (c.loop-node.invariant.0, ((c.requires.expanded.0, node_expanded_at c.requires.expanded.0 c.args.nodes.now c.loop-node.node-index _ c.requires.expanded.1 c.loop-node-test.true),
-    (c.requires.room.0, sums_first_node c.requires.room.0 _ _ _ (drop_more c.args.nodes.now c.loop-node.node-index _ c.loop-node-test.true) (c.loop-node.invariant.3 c.requires.room.0 c.requires.room.1))))))
+count_nodes-count_leaves-requires t c = (
+  leaves_fall c.args.nodes.now c.loop-node.node-index _ t c.decreases c.loop-node-test.true,
+  (
+    c.requires.few,
+    (
+      c.loop-node.invariant.0,
+      (
+        (c.requires.expanded.0, node_expanded_at c.requires.expanded.0 c.args.nodes.now c.loop-node.node-index _ c.requires.expanded.1 c.loop-node-test.true),
+        (c.requires.room.0, sums_first_node c.requires.room.0 _ _ _ (drop_more c.args.nodes.now c.loop-node.node-index _ c.loop-node-test.true) (c.loop-node.invariant.3 c.requires.room.0 c.requires.room.1)),
+      ),
+    ),
+  ),
+)
 
 pub count_leaf-returns-in-Present-clause-counted : goal.count_leaf-returns-in-Present-clause-counted
 count_leaf-returns-in-Present-clause-counted t c = λ C. same_leaf _ _ _ _ _ _ (ap (leaf_of C) c.in-Present.is ∙ leaf_present C c.in-Present.part) (c.count_leaf.ensures.counted C)

@@ -19,4 +19,3 @@ returns-in-Ok c =
     c.index_of-index.ensures.index
     (next_taken c.args.scopes.now (λ ms. name_found ms c.args.space (reach_of c.args.reach) (id_of c.args.id)) c.next.result c.args.reading.now.denotations.left.now c.next.new.self.left.now c.next.ensures.next c.requires.kept)
     c.next.ensures.served c.if-leads_out.ensures _ _ c.in-Ok.ensures.done
-
